@@ -1,0 +1,7 @@
+pub mod Kind
+pub mod Signs
+pub mod Totals
+pub mod Clamp
+pub mod Single
+pub mod Ranked
+pub mod Refusals

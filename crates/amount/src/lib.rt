@@ -1,0 +1,142 @@
+// Amounts: what costs are counted in, and what holds of every kind of them.
+ghost use mathlib.Core.Path.{_≡_};
+ghost use Prim.Native.Nat.{_≤_};
+ghost use lib.IntN.{natAbs, _+ℤ_};
+ghost use Rattle.std.specs.Orderings.{Decides};
+ghost use Rattle.amount.specs.Clamp.{clamp};
+ghost use Rattle.amount.specs.Kind.{Kind, Laws, span-limit};
+ghost use Rattle.amount.specs.Signs.{positive, negative, same, absolute, lesser, positive-part, negative-part, opposite-signs, overlap, Merges, Mergeable};
+ghost use Rattle.amount.specs.Totals.{total as total-of, Exact-totals};
+ghost use Rattle.amount.specs.Refusals.{width-number};
+
+mod ranks;
+mod singles;
+
+pub use ranks::Ranked;
+pub use ranks::kind::RankedAmount;
+pub use singles::Single;
+pub use singles::kind::SingleAmount;
+
+// The widest span of an amount, 2^50.
+pub(crate) const LIMIT: i64 = 1 << 50;
+
+// The sum of two ranks, held within the limit.
+pub(crate) fn clamped_sum(a: i64, b: i64) -> i64
+    requires { ⌜ natAbs a ≤ span-limit ⌝ ∗ ⌜ natAbs b ≤ span-limit ⌝ }
+    ensures value { λ r. ⌜ r ≡ clamp (a +ℤ b) ⌝ }
+    ensures narrow { λ r. ⌜ natAbs r ≤ span-limit ⌝ }
+{
+    (a + b).clamp(-LIMIT, LIMIT)
+}
+
+// Why an amount is not made.
+#[derive(Clone, Copy, PartialEq, Eq, Debug)]
+pub enum WidthRefusal {
+    TooWide,
+}
+
+impl WidthRefusal {
+    pub fn number(self) -> u8
+        ensures { λ r. ⌜ r ≡ width-number self ⌝ }
+    {
+        match self {
+            WidthRefusal::TooWide => 4,
+        }
+    }
+}
+
+// A kind of amount. Whatever keeps the laws may be used throughout.
+pub trait Amount: Copy {
+    ghost kind: { Kind Self };
+
+    law laws: { Laws kind };
+
+    fn zero() -> Self
+        ensures { λ r. ⌜ r ≡ kind .zero ⌝ };
+
+    fn sum(self, other: Self) -> Self
+        ensures { λ r. ⌜ r ≡ kind .sum self other ⌝ };
+
+    fn opposite(self) -> Self
+        ensures { λ r. ⌜ r ≡ kind .opposite self ⌝ };
+
+    fn is_below(self, other: Self) -> bool
+        ensures { λ r. ⌜ r ≡ kind .below self other ⌝ };
+
+    fn span(self) -> u64
+        ensures { λ r. ⌜ r ≡ kind .span self ⌝ };
+
+    fn is_positive(self) -> bool
+        ensures { λ r. ⌜ r ≡ positive kind self ⌝ }
+    {
+        Self::zero().is_below(self)
+    }
+
+    fn is_negative(self) -> bool
+        ensures { λ r. ⌜ r ≡ negative kind self ⌝ }
+    {
+        self.is_below(Self::zero())
+    }
+
+    fn absolute(self) -> Self
+        ensures { λ r. ⌜ r ≡ absolute kind self ⌝ }
+    {
+        if self.is_negative() { self.opposite() } else { self }
+    }
+
+    fn lesser(self, other: Self) -> Self
+        ensures { λ r. ⌜ r ≡ lesser kind self other ⌝ }
+    {
+        if other.is_below(self) { other } else { self }
+    }
+
+    fn positive_part(self) -> Self
+        ensures { λ r. ⌜ r ≡ positive-part kind self ⌝ }
+    {
+        if self.is_positive() { self } else { Self::zero() }
+    }
+
+    fn negative_part(self) -> Self
+        ensures { λ r. ⌜ r ≡ negative-part kind self ⌝ }
+    {
+        if self.is_negative() { self.opposite() } else { Self::zero() }
+    }
+}
+
+// Whether two amounts are one.
+pub fn is_same<A: Amount>(x: A, y: A) -> bool
+    ensures value { λ r. ⌜ r ≡ same (A·Amount .kind) x y ⌝ }
+    ensures means { λ r. ⌜ Decides r (x ≡ y) ⌝ }
+{
+    !x.is_below(y) && !y.is_below(x)
+}
+
+fn has_opposite_signs<A: Amount>(x: A, y: A) -> bool
+    ensures { λ r. ⌜ r ≡ opposite-signs (A·Amount .kind) x y ⌝ }
+{
+    (x.is_positive() && y.is_negative()) || (x.is_negative() && y.is_positive())
+}
+
+// What of x and y is lost in their sum. The contract has the two identities that a merge rests on.
+pub fn overlap<A: Amount>(x: A, y: A) -> A
+    ensures value { λ r. ⌜ r ≡ overlap (A·Amount .kind) x y ⌝ }
+    ensures merges { λ _. ⌜ (Mergeable (A·Amount .kind) x y → Merges (A·Amount .kind) x y) ⌝ }
+{
+    if has_opposite_signs(x, y) {
+        x.absolute().lesser(y.absolute())
+    } else {
+        A::zero()
+    }
+}
+
+// The total of a list. The contract says besides what makes totals exact sums.
+pub fn total<A: Amount>(amounts: &[A]) -> A
+    ensures value { λ r. ⌜ r ≡ total-of (A·Amount .kind) (now (amounts .entry)) ⌝ }
+    ensures exact { λ _. ⌜ Exact-totals (A·Amount .kind) ⌝ }
+{
+    let mut sum = A::zero();
+    for amount in amounts {
+        sum = sum.sum(*amount);
+    }
+    sum
+}
