@@ -3,11 +3,15 @@ ghost use mathlib.Core.Path.{_≡_};
 ghost use Prim.Native.Nat.{_≤_};
 ghost use lib.IntN.{natAbs, _+ℤ_};
 ghost use Rattle.std.specs.Orderings.{Decides};
+ghost use Rattle.std.specs.declared.option.Option.the-variants.{Some};
 ghost use Rattle.amount.specs.Clamp.{clamp};
 ghost use Rattle.amount.specs.Kind.{Kind, Laws, span-limit};
 ghost use Rattle.amount.specs.Signs.{positive, negative, same, absolute, lesser, positive-part, negative-part, opposite-signs, overlap, Merges, Mergeable};
 ghost use Rattle.amount.specs.Totals.{total as total-of, Exact-totals};
-ghost use Rattle.amount.specs.Refusals.{width-number};
+ghost use Rattle.amount.specs.Refusals.{width-number, width-text};
+
+use std::error::Error;
+use std::fmt;
 
 mod ranks;
 mod singles;
@@ -43,7 +47,25 @@ impl WidthRefusal {
             WidthRefusal::TooWide => 4,
         }
     }
+
+    fn text(self) -> &'static str
+        ensures { λ r. ⌜ now r ≡ width-text self ⌝ }
+    {
+        match self {
+            WidthRefusal::TooWide => "an amount is too wide",
+        }
+    }
 }
+
+pub impl fmt::Display for WidthRefusal as WidthRefusalDisplay {
+    ghost shown = { λ refusal. Some (width-text refusal) };
+
+    fn fmt<W: fmt::Write>(&self, f: &mut fmt::Formatter<W>) -> fmt::Result {
+        f.write_str(self.text())
+    }
+}
+
+pub impl Error for WidthRefusal as WidthRefusalError {}
 
 // A kind of amount. Whatever keeps the laws may be used throughout.
 pub trait Amount: Copy {

@@ -114,6 +114,9 @@ module _ {A : Type 0} (k : Kind A) (laws : Laws k) (job : Job A) where
       from : Even k job → (i : ℕ) → i < job .parts → (j : ℕ) → j < job .parts → Even-at i j
       from e i p j q = ((e .square-symmetric i j p q, e .marks-symmetric i j p q), λ s. (ap (amount-at k job i) (sym s) ∙ e .square-diagonal i p, ap (marked job i) (sym s) ∙ e .marks-diagonal i p))
 
+  pub even-told : is-even k job ≡ true → Even k job
+  even-told = even-tells .0
+
   narrow-tells : Decides (is-narrow k job) (Narrow k job)
   narrow-tells = every-tells _ _ (λ c. leb-tells (k .span (getD (job .square) c (k .zero))) widest) (length (job .square))
 

@@ -1,10 +1,13 @@
 // Jobs, groupings of their parts, and what a grouping costs.
 ghost use mathlib.Core.Path.{_≡_};
+ghost use Rattle.std.specs.declared.option.Option.the-variants.{Some};
 ghost use Rattle.job.specs.Answers.{checked, priced, Check-tells, Price-tells};
 ghost use Rattle.job.specs.Job.{job-of};
-ghost use Rattle.job.specs.Refusals.{job-number, cost-number};
+ghost use Rattle.job.specs.Refusals.{job-number, job-text, cost-number, cost-text};
 ghost use Rattle.job.specs.declared.CostRefusal.the-variants.{Job};
 use amount::Amount;
+use std::error::Error;
+use std::fmt;
 
 mod bills;
 mod cells;
@@ -36,7 +39,28 @@ impl JobRefusal {
             JobRefusal::TooWide => 4,
         }
     }
+
+    fn text(self) -> &'static str
+        ensures { λ r. ⌜ now r ≡ job-text self ⌝ }
+    {
+        match self {
+            JobRefusal::Parts => "too few or too many parts",
+            JobRefusal::Size => "square or marks are not as long as the parts ask",
+            JobRefusal::Lopsided => "square or marks are lopsided or hold something on the diagonal",
+            JobRefusal::TooWide => "an amount of the square is too wide",
+        }
+    }
 }
+
+pub impl fmt::Display for JobRefusal as JobRefusalDisplay {
+    ghost shown = { λ refusal. Some (job-text refusal) };
+
+    fn fmt<W: fmt::Write>(&self, f: &mut fmt::Formatter<W>) -> fmt::Result {
+        f.write_str(self.text())
+    }
+}
+
+pub impl Error for JobRefusal as JobRefusalError {}
 
 // Why a grouping is not priced.
 #[derive(Clone, Copy, PartialEq, Eq, Debug)]
@@ -47,7 +71,7 @@ pub enum CostRefusal {
     Marked,
 }
 
-impl From<JobRefusal> for CostRefusal as CostRefusalFrom {
+pub impl From<JobRefusal> for CostRefusal as CostRefusalFrom {
     ghost converts = { λ refusal r. r ≡ Job refusal };
 
     fn from(refusal: JobRefusal) -> CostRefusal {
@@ -66,7 +90,28 @@ impl CostRefusal {
             CostRefusal::Marked => 6,
         }
     }
+
+    fn text(self) -> &'static str
+        ensures { λ r. ⌜ now r ≡ cost-text self ⌝ }
+    {
+        match self {
+            CostRefusal::Job(refusal) => refusal.text(),
+            CostRefusal::LabelCount => "there is not one label for each part",
+            CostRefusal::NotGrouping => "a label is not the smallest part of its group",
+            CostRefusal::Marked => "a marked pair shares a group",
+        }
+    }
 }
+
+pub impl fmt::Display for CostRefusal as CostRefusalDisplay {
+    ghost shown = { λ refusal. Some (cost-text refusal) };
+
+    fn fmt<W: fmt::Write>(&self, f: &mut fmt::Formatter<W>) -> fmt::Result {
+        f.write_str(self.text())
+    }
+}
+
+pub impl Error for CostRefusal as CostRefusalError {}
 
 // The check of a job: it writes nothing.
 pub fn check<A: Amount>(parts: usize, square: &[A], marks: &[bool]) -> Result<(), JobRefusal>
