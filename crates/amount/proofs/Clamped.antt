@@ -1,8 +1,7 @@
 -- Clamped sums of whole numbers: what each rank of an amount keeps.
 use mathlib.Core.Path.{_≡_, sym, ap, _∙_}
-use mathlib.Core.Bool.{Bool, true, false}
-use mathlib.Core.Logic.{_⊎_, inl, inr}
-use Prim.Native.Nat.{ℕ, _+_, _≤_}
+use mathlib.Core.Bool.{true, false}
+use Prim.Native.Nat.{_+_, _≤_}
 use native.Mathlib.Omega.{arith}
 use lib.IntN.{ℤ, pos, natAbs, _+ℤ_, negℤ, +ℤ-assoc}
 use lib.Signed.{ltZ}
@@ -33,10 +32,6 @@ span-sum a b = omega (arith, ints, clamps)
 
 pub span-opposite : (a : ℤ) → natAbs a ≤ span-limit → natAbs (clamp (negℤ a)) ≡ natAbs a
 span-opposite a h = omega (arith, ints, clamps)
-
--- a clamped sum is exact while the absolute values total at most the limit
-pub exact-sum : (v a b : ℤ) → v ≡ clamp (a +ℤ b) → natAbs a + natAbs b ≤ span-limit → v ≡ a +ℤ b
-exact-sum v a b e h = e ∙ clamp-same (a +ℤ b) (omega (arith, ints))
 
 pub irreflexive : (a : ℤ) → ltZ a a ≡ false
 irreflexive a = grind (arith, ints)

@@ -1,6 +1,6 @@
 -- Ranked amounts keep the laws.
-use mathlib.Core.Path.{_≡_, refl, ap, _∙_}
-use mathlib.Core.Bool.{Bool, true, false}
+use mathlib.Core.Path.{_≡_, refl, _∙_}
+use mathlib.Core.Bool.{true, false}
 use mathlib.Core.HLevel.{isProp→PathP}
 use native.Mathlib.Bridge.{le-prop}
 use native.Mathlib.Omega.{arith}
@@ -35,9 +35,6 @@ connected a b c d p q = grind (arith, ints)
 shifts : (a b c d e f : ℤ) → max (natAbs a) (natAbs b) + max (natAbs c) (natAbs d) + max (natAbs e) (natAbs f) ≤ span-limit → ranked-below (clamp (a +ℤ e)) (clamp (b +ℤ f)) (clamp (c +ℤ e)) (clamp (d +ℤ f)) ≡ ranked-below a b c d
 shifts a b c d e f h = cc (whole.shifts a c e (omega arith), whole.shifts c a e (omega arith), whole.shifts b d f (omega arith))
 
-pub exact-ranks : (v w a b c d : ℤ) → v ≡ clamp (a +ℤ c) → w ≡ clamp (b +ℤ d) → max (natAbs a) (natAbs b) + max (natAbs c) (natAbs d) ≤ span-limit → (v ≡ a +ℤ c) × (w ≡ b +ℤ d)
-exact-ranks v w a b c d p q h = (whole.exact-sum v a c p (omega arith), whole.exact-sum w b d q (omega arith))
-
 pub ranked-laws : Laws ranked-kind
 ranked-laws = record {
   span-most = λ x. omega arith;
@@ -49,9 +46,9 @@ ranked-laws = record {
   neutral = λ x. same-ranked _ _ (whole.neutral (x .first) (x .major)) (whole.neutral (x .second) (x .minor));
   cancels = λ x h. same-ranked _ _ (whole.cancels (x .first) (x .major)) (whole.cancels (x .second) (x .minor));
   ordered = exactly-one (ranked-kind .below)
-    (λ x. irreflexive (x .first) (x .second))
-    (λ x y z. transitive (x .first) (x .second) (y .first) (y .second) (z .first) (z .second))
-    (λ x y p q. let e = connected (x .first) (x .second) (y .first) (y .second) p q in same-ranked x y (e .0) (e .1));
+      (λ x. irreflexive (x .first) (x .second))
+      (λ x y z. transitive (x .first) (x .second) (y .first) (y .second) (z .first) (z .second))
+      (λ x y p q. let e = connected (x .first) (x .second) (y .first) (y .second) p q in same-ranked x y (e .0) (e .1));
   transitive = λ x y z. transitive (x .first) (x .second) (y .first) (y .second) (z .first) (z .second);
   shifts = λ x y z h p. shifts (x .first) (x .second) (y .first) (y .second) (z .first) (z .second) h ∙ p;
 }

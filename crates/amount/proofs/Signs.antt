@@ -1,10 +1,10 @@
 -- What the laws give of signs: the parts of a sum, and their spans.
 use mathlib.Core.Path.{_≡_, refl, sym, ap, _∙_}
-use mathlib.Core.Bool.{Bool, true, false, cond}
+use mathlib.Core.Bool.{true, false}
 use Prim.Native.Nat.{ℕ, _+_, _*_, _≤_}
 use native.Mathlib.Omega.{arith}
 use Rattle.std.proofs.shelf.Tests.{cond-both}
-use Rattle.amount.specs.Kind.{Kind, Laws, span-limit, At-most}
+use Rattle.amount.specs.Kind.{Kind, Laws, span-limit}
 use Rattle.amount.specs.Signs.{absolute, lesser, positive-part, negative-part, overlap, Merges, Mergeable}
 use Rattle.amount.proofs.Order.{Stand, under, level, over, stand, not-both, shifted}
 use Rattle.amount.proofs.Totals.{neutral-right, exchange}
@@ -55,8 +55,8 @@ module _ {A : Type 0} (k : Kind A) (laws : Laws k) where
 
   pub span-overlap : (x y : A) → k .span (overlap k x y) ≤ k .span x + k .span y
   span-overlap x y = cond-both _ (lesser k (absolute k x) (absolute k y)) (k .zero) (λ v. k .span v ≤ k .span x + k .span y)
-    (λ _. span-lesser (absolute k x) (absolute k y) (k .span x + k .span y) (omega (arith, span-absolute x)) (omega (arith, span-absolute y)))
-    (λ _. omega (arith, laws .span-zero))
+      (λ _. span-lesser (absolute k x) (absolute k y) (k .span x + k .span y) (omega (arith, span-absolute x)) (omega (arith, span-absolute y)))
+      (λ _. omega (arith, laws .span-zero))
 
   -- the absolute amount is both parts together
   pub absolute-parts : (x : A) → absolute k x ≡ k .sum (positive-part k x) (negative-part k x)

@@ -8,7 +8,7 @@ use Rattle.std.specs.Iters.{folded}
 use Rattle.std.specs.Joined.{joined}
 use Rattle.std.specs.shelf.Lists.{All}
 use Rattle.amount.specs.Kind.{Kind, Laws, span-limit, At-most}
-use Rattle.amount.specs.Totals.{total, spans, lefts, rights, Exact-totals}
+use Rattle.amount.specs.Totals.{total, spans, Exact-totals}
 use Rattle.amount.proofs.Order.{irreflexive, sum-at-most}
 
 module _ {A : Type 0} (k : Kind A) (laws : Laws k) where

@@ -1,7 +1,7 @@
 -- Exactly one of below, the same and above, from three laws that are easier to show of a kind.
-use mathlib.Core.Path.{_≡_, refl, sym, _∙_}
+use mathlib.Core.Path.{_≡_, refl, sym}
 use mathlib.Core.Bool.{Bool, true, false}
-use mathlib.Core.Logic.{_⊎_, inl, inr}
+use mathlib.Core.Logic.{inl, inr}
 use Rattle.std.proofs.shelf.Tests.{both-ways}
 use Rattle.amount.specs.Kind.{Exactly-one}
 

@@ -1,6 +1,5 @@
 -- Whole numbers held between -2^50 and 2^50.
-use mathlib.Core.Path.{_≡_}
-use Prim.Native.Nat.{ℕ, _≤_, _^_}
+use Prim.Native.Nat.{_≤_, _^_}
 use native.Mathlib.Omega.{arith}
 use lib.IntN.{ℤ, pos, natAbs, negℤ}
 use Rattle.std.specs.Numbers.{maxZ, minZ}

@@ -1,7 +1,7 @@
 -- Signs of amounts, by the kind's own order.
 use mathlib.Core.Path.{_≡_}
 use mathlib.Core.Bool.{Bool, cond, not, _&&_, _||_}
-use Prim.Native.Nat.{ℕ, _+_, _*_, _≤_}
+use Prim.Native.Nat.{_+_, _*_, _≤_}
 use Rattle.amount.specs.Kind.{Kind, span-limit}
 
 abbrev pub positive : {A : Type 0} → Kind A → A → Bool

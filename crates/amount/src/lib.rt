@@ -1,15 +1,11 @@
 // Amounts: what costs are counted in, and what holds of every kind of them.
 ghost use mathlib.Core.Path.{_≡_};
-ghost use Prim.Native.Nat.{_≤_};
-ghost use lib.IntN.{natAbs, _+ℤ_};
 ghost use Rattle.std.specs.Orderings.{Decides};
 ghost use Rattle.std.specs.declared.option.Option.the-variants.{Some};
-ghost use Rattle.amount.specs.Clamp.{clamp};
-ghost use Rattle.amount.specs.Kind.{Kind, Laws, span-limit};
+ghost use Rattle.amount.specs.Kind.{Kind, Laws};
 ghost use Rattle.amount.specs.Signs.{positive, negative, same, absolute, lesser, positive-part, negative-part, opposite-signs, overlap, Merges, Mergeable};
 ghost use Rattle.amount.specs.Totals.{total as total-of, Exact-totals};
 ghost use Rattle.amount.specs.Refusals.{width-number, width-text};
-
 use std::error::Error;
 use std::fmt;
 
@@ -23,15 +19,6 @@ pub use singles::kind::SingleAmount;
 
 // The widest span of an amount, 2^50.
 pub(crate) const LIMIT: i64 = 1 << 50;
-
-// The sum of two ranks, held within the limit.
-pub(crate) fn clamped_sum(a: i64, b: i64) -> i64
-    requires { ⌜ natAbs a ≤ span-limit ⌝ ∗ ⌜ natAbs b ≤ span-limit ⌝ }
-    ensures value { λ r. ⌜ r ≡ clamp (a +ℤ b) ⌝ }
-    ensures narrow { λ r. ⌜ natAbs r ≤ span-limit ⌝ }
-{
-    (a + b).clamp(-LIMIT, LIMIT)
-}
 
 // Why an amount is not made.
 #[derive(Clone, Copy, PartialEq, Eq, Debug)]
@@ -103,7 +90,11 @@ pub trait Amount: Copy {
     fn absolute(self) -> Self
         ensures { λ r. ⌜ r ≡ absolute kind self ⌝ }
     {
-        if self.is_negative() { self.opposite() } else { self }
+        if self.is_negative() {
+            self.opposite()
+        } else {
+            self
+        }
     }
 
     fn lesser(self, other: Self) -> Self
@@ -115,13 +106,21 @@ pub trait Amount: Copy {
     fn positive_part(self) -> Self
         ensures { λ r. ⌜ r ≡ positive-part kind self ⌝ }
     {
-        if self.is_positive() { self } else { Self::zero() }
+        if self.is_positive() {
+            self
+        } else {
+            Self::zero()
+        }
     }
 
     fn negative_part(self) -> Self
         ensures { λ r. ⌜ r ≡ negative-part kind self ⌝ }
     {
-        if self.is_negative() { self.opposite() } else { Self::zero() }
+        if self.is_negative() {
+            self.absolute()
+        } else {
+            Self::zero()
+        }
     }
 }
 

@@ -1,7 +1,12 @@
 // Amounts of two numbers, the first counting before the second.
-ghost use Prim.Native.Nat.{_≤_};
+ghost use mathlib.Core.Path.{_≡_};
+ghost use Prim.Native.Nat.{_≤_, max};
 ghost use lib.IntN.{natAbs};
+ghost use Rattle.std.specs.Results.{Cases};
 ghost use Rattle.amount.specs.Kind.{span-limit};
+ghost use Rattle.amount.specs.declared.WidthRefusal.the-variants.{TooWide};
+use crate::LIMIT;
+use crate::WidthRefusal;
 
 pub(crate) mod kind;
 
@@ -12,4 +17,28 @@ pub struct Ranked {
     second: i64,
     ghost major: { natAbs first ≤ span-limit },
     ghost minor: { natAbs second ≤ span-limit },
+}
+
+impl Ranked {
+    // The amount of two numbers; refused where one is too wide.
+    pub fn new(first: i64, second: i64) -> Result<Ranked, WidthRefusal>
+        ensures { λ r. ⌜ Cases r (λ s. (s .first ≡ first) × (s .second ≡ second)) (λ e. (e ≡ TooWide) × (max (natAbs first) (natAbs second) ≤ span-limit → ⊥)) ⌝ }
+    {
+        if first > LIMIT || first < -LIMIT || second > LIMIT || second < -LIMIT {
+            return Err(WidthRefusal::TooWide);
+        }
+        Ok(Ranked { first, second })
+    }
+
+    pub fn first(self) -> i64
+        ensures { λ r. ⌜ r ≡ self .first ⌝ }
+    {
+        self.first
+    }
+
+    pub fn second(self) -> i64
+        ensures { λ r. ⌜ r ≡ self .second ⌝ }
+    {
+        self.second
+    }
 }

@@ -1,7 +1,12 @@
 // Amounts of one number.
+ghost use mathlib.Core.Path.{_≡_};
 ghost use Prim.Native.Nat.{_≤_};
 ghost use lib.IntN.{natAbs};
+ghost use Rattle.std.specs.Results.{Cases};
 ghost use Rattle.amount.specs.Kind.{span-limit};
+ghost use Rattle.amount.specs.declared.WidthRefusal.the-variants.{TooWide};
+use crate::LIMIT;
+use crate::WidthRefusal;
 
 pub(crate) mod kind;
 
@@ -10,4 +15,22 @@ pub(crate) mod kind;
 pub struct Single {
     value: i64,
     ghost narrow: { natAbs value ≤ span-limit },
+}
+
+impl Single {
+    // The amount of a number; refused where it is too wide.
+    pub fn new(value: i64) -> Result<Single, WidthRefusal>
+        ensures { λ r. ⌜ Cases r (λ s. s .value ≡ value) (λ e. (e ≡ TooWide) × (natAbs value ≤ span-limit → ⊥)) ⌝ }
+    {
+        if value > LIMIT || value < -LIMIT {
+            return Err(WidthRefusal::TooWide);
+        }
+        Ok(Single { value })
+    }
+
+    pub fn value(self) -> i64
+        ensures { λ r. ⌜ r ≡ self .value ⌝ }
+    {
+        self.value
+    }
 }

@@ -1,20 +1,18 @@
 -- The least cost of a small job by trying all labels that could be a grouping: each part's at most its number.
-use mathlib.Core.Path.{_≡_, refl, sym, ap, subst, _∙_}
+use mathlib.Core.Path.{_≡_, refl, subst}
 use mathlib.Core.List.{List, [], _∷_, _++_, map}
-use mathlib.Core.Bool.{Bool, true, false, not, _&&_, _||_}
+use mathlib.Core.Bool.{Bool, true, not, _&&_, _||_}
 use mathlib.Core.Logic.{_⊎_, inl, inr}
 use Prim.Native.Nat.{ℕ, zero, suc, _+_, _<_, _≤_}
 use native.Mathlib.Omega.{arith}
-use native.Mathlib.Numerals.{add-one}
 use lib.ListN.{length, getD}
 use Rattle.std.specs.Iters.{counting}
 use Rattle.std.specs.Joined.{joined}
-use Rattle.std.specs.Orderings.{Decides}
 use Rattle.std.specs.shelf.Lists.{All}
 use Rattle.std.proofs.shelf.Tests.{cases-eq, and-parts, and-from, or-cases, both-ways, not-from-true, not-true}
-use Rattle.amount.specs.Kind.{Kind, Laws, At-most}
-use Rattle.job.specs.Job.{Job, Even, is-even}
-use Rattle.job.specs.Grouping.{Grouping, Respects, label, is-grouping, is-respectful}
+use Rattle.amount.specs.Kind.{Kind, At-most}
+use Rattle.job.specs.Job.{Job, Even}
+use Rattle.job.specs.Grouping.{Grouping, Respects, is-grouping, is-respectful}
 use Rattle.job.specs.Cost.{cost, Least}
 use Rattle.job.proofs.Told.{grouping-tells, respect-tells}
 

@@ -1,5 +1,5 @@
 -- The table holds, by computation.
-use mathlib.Core.Path.{_≡_, refl}
+use mathlib.Core.Path.{refl}
 use mathlib.Core.List.{[], _∷_}
 use lib.IntN.{pos}
 use Rattle.std.specs.shelf.Lists.{All}
@@ -7,7 +7,6 @@ use Rattle.amount.specs.Single.{single, single-kind}
 use Rattle.amount.specs.Ranked.{ranked, ranked-kind}
 use Rattle.amount.proofs.SingleLaws.{single-laws}
 use Rattle.amount.proofs.RankedLaws.{ranked-laws}
-use Rattle.job.specs.Job.{Even}
 use Rattle.job.specs.Cost.{Least}
 use Rattle.job.proofs.Told.{even-told}
 use Rattle.cases.specs.Worked.{worked-cases, Holds, plain, in-ranks, mark-01}

@@ -17,7 +17,6 @@ use std::alloc::AllocError;
 use std::alloc::Global;
 use std::error::AnyError;
 
-
 #[cfg(test)]
 mod tests;
 
@@ -26,6 +25,7 @@ const GROUPINGS: [[usize; 3]; 5] = [[0, 1, 2], [0, 0, 2], [0, 1, 1], [0, 1, 0], 
 
 // Marks of three parts: none, and the pair 0-1.
 const UNMARKED: [bool; 9] = [false; 9];
+
 const MARKED: [bool; 9] = [false, true, false, true, false, false, false, false, false];
 
 // An amount that can be shown to a person.
@@ -82,7 +82,12 @@ fn cheapest<A: Amount>(square: &[A], marks: &[bool]) -> Option<(usize, A)> {
 }
 
 // Prices one grouping of three parts.
-fn price_one<A: Shown>(rt: &LibcRuntime, square: &[A], marks: &[bool], labels: &[usize]) -> Result<(), AnyError> {
+fn price_one<A: Shown>(
+    rt: &LibcRuntime,
+    square: &[A],
+    marks: &[bool],
+    labels: &[usize],
+) -> Result<(), AnyError> {
     match cost(3, square, marks, labels) {
         Ok(price) => {
             let text = price.text(rt.alloc())?;
@@ -112,7 +117,13 @@ fn price_all<A: Shown>(rt: &LibcRuntime, square: &[A], marks: &[bool]) -> Result
 }
 
 // Says what the check of a job answers.
-fn show_check(rt: &LibcRuntime, what: &str, parts: usize, square: &[Single], marks: &[bool]) -> Result<(), AnyError> {
+fn show_check(
+    rt: &LibcRuntime,
+    what: &str,
+    parts: usize,
+    square: &[Single],
+    marks: &[bool],
+) -> Result<(), AnyError> {
     match check(parts, square, marks) {
         Ok(()) => println!(rt, "  {what}: passes")?,
         Err(refusal) => {
@@ -129,9 +140,27 @@ fn show_refusals(rt: &LibcRuntime) -> Result<(), AnyError> {
     let wider = Single::new(1_000_001)?;
     show_check(rt, "33 parts", 33, &[zero; 1089], &[false; 1089])?;
     show_check(rt, "3 parts, 8 amounts", 3, &[zero; 8], &UNMARKED)?;
-    show_check(rt, "0-1 is not 1-0", 2, &[zero, widest, zero, zero], &[false; 4])?;
-    show_check(rt, "span 1,000,000", 2, &[zero, widest, widest, zero], &[false; 4])?;
-    show_check(rt, "span 1,000,001", 2, &[zero, wider, wider, zero], &[false; 4])
+    show_check(
+        rt,
+        "0-1 is not 1-0",
+        2,
+        &[zero, widest, zero, zero],
+        &[false; 4],
+    )?;
+    show_check(
+        rt,
+        "span 1,000,000",
+        2,
+        &[zero, widest, widest, zero],
+        &[false; 4],
+    )?;
+    show_check(
+        rt,
+        "span 1,000,001",
+        2,
+        &[zero, wider, wider, zero],
+        &[false; 4],
+    )
 }
 
 fn main(rt: LibcRuntime) -> Result<(), AnyError> {
@@ -140,8 +169,15 @@ fn main(rt: LibcRuntime) -> Result<(), AnyError> {
     price_all(&rt, &square, &UNMARKED)?;
     println!(rt, "The same, with the pair 0-1 marked.")?;
     price_all(&rt, &square, &MARKED)?;
-    println!(rt, "Ranked amounts: 0-1 at 1/0, 0-2 at 0/-1000, 1-2 at 0/900.")?;
-    let ranked = square_of(Ranked::new(1, 0)?, Ranked::new(0, -1000)?, Ranked::new(0, 900)?);
+    println!(
+        rt,
+        "Ranked amounts: 0-1 at 1/0, 0-2 at 0/-1000, 1-2 at 0/900."
+    )?;
+    let ranked = square_of(
+        Ranked::new(1, 0)?,
+        Ranked::new(0, -1000)?,
+        Ranked::new(0, 900)?,
+    );
     price_all(&rt, &ranked, &UNMARKED)?;
     println!(rt, "Jobs and what their check says.")?;
     show_refusals(&rt)?;

@@ -25,17 +25,20 @@ fn refusals_in_order() -> Result<(), Fail> {
     let good = [zero, fits, fits, zero];
     let free = [false; 4];
     let marked = [false, true, true, false];
-    check_eq(refusal(0, &[], &[], &[]), 1)?;
-    check_eq(refusal(33, &lopsided, &free, &[]), 1)?;
-    check_eq(refusal(2, &[wide; 3], &free, &[1]), 2)?;
-    check_eq(refusal(2, &lopsided, &[true; 5], &[1]), 2)?;
-    check_eq(refusal(2, &lopsided, &free, &[1]), 3)?;
-    check_eq(refusal(2, &diagonal, &free, &[1]), 3)?;
-    check_eq(refusal(2, &too_wide, &[false, true, false, false], &[1]), 3)?;
-    check_eq(refusal(2, &too_wide, &[true, false, false, false], &[1]), 3)?;
-    check_eq(refusal(2, &too_wide, &marked, &[1]), 4)?;
-    check_eq(refusal(2, &good, &marked, &[1]), 2)?;
-    check_eq(refusal(2, &good, &marked, &[1, 1]), 7)?;
-    check_eq(refusal(2, &good, &marked, &[0, 0]), 6)?;
-    check_eq(refusal(2, &good, &free, &[0, 0]), 0)
+    let given = [
+        refusal(0, &[], &[], &[]),
+        refusal(33, &lopsided, &free, &[]),
+        refusal(2, &[wide; 3], &free, &[1]),
+        refusal(2, &lopsided, &[true; 5], &[1]),
+        refusal(2, &lopsided, &free, &[1]),
+        refusal(2, &diagonal, &free, &[1]),
+        refusal(2, &too_wide, &[false, true, false, false], &[1]),
+        refusal(2, &too_wide, &[true, false, false, false], &[1]),
+        refusal(2, &too_wide, &marked, &[1]),
+        refusal(2, &good, &marked, &[1]),
+        refusal(2, &good, &marked, &[1, 1]),
+        refusal(2, &good, &marked, &[0, 0]),
+        refusal(2, &good, &free, &[0, 0]),
+    ];
+    check_eq(given, [1, 1, 2, 2, 3, 3, 3, 3, 4, 2, 7, 6, 0])
 }

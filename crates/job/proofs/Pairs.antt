@@ -4,7 +4,7 @@ use mathlib.Core.List.{List, [], _∷_, _++_, map}
 use Prim.Native.Nat.{ℕ, _+_}
 use native.Mathlib.Omega.{arith}
 use Rattle.std.specs.Iters.{folded, counting}
-use Rattle.std.proofs.shelf.Lists.{append-assoc, map-push, map-append, map-id, joined-more}
+use Rattle.std.proofs.shelf.Lists.{map-push, map-append, map-id, joined-more}
 use Rattle.std.proofs.shelf.Counted.{map-counting-more}
 use Rattle.std.proofs.shelf.Sums.{folded-push}
 use Rattle.job.specs.Cost.{row, pairs}

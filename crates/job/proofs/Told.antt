@@ -1,9 +1,9 @@
 -- What the tests of a job and of a grouping tell, and so what each answer tells.
 use mathlib.Core.Path.{_≡_, refl, sym, ap, subst, _∙_}
-use mathlib.Core.Bool.{Bool, true, false, cond, not, _&&_, _||_}
+use mathlib.Core.Bool.{Bool, true, false, not, _&&_, _||_}
 use mathlib.Core.List.{List}
 use mathlib.Core.Logic.{_⊎_, inl, inr}
-use Prim.Native.Nat.{ℕ, _+_, _*_, _<_, _≤_}
+use Prim.Native.Nat.{ℕ, _*_, _<_, _≤_}
 use native.Mathlib.Omega.{arith}
 use lib.Dec.{eqb, leb}
 use lib.ListN.{length, getD}
@@ -14,11 +14,11 @@ use Rattle.std.proofs.shelf.Tests.{leb-true, le-leb, cases-eq, cases-order, bot
 use Rattle.std.proofs.shelf.Ways.{decides-and, decides-or, decides-not, decides-eqb, decides-like, not-from-decides}
 use Rattle.amount.specs.Kind.{Kind, Laws}
 use Rattle.amount.proofs.Order.{same-is}
-use Rattle.job.specs.Tests.{every, alike, refuse-unless, refuse-or}
+use Rattle.job.specs.Tests.{alike, refuse-unless, refuse-or}
 use Rattle.job.specs.Job.{Job, amount-at, marked, widest, most-parts, Within, Sized, Even, Narrow, Sound, is-within, is-sized, is-even-at, is-even, is-narrow}
-use Rattle.job.specs.Grouping.{Grouping, Respects, label, together, is-label, is-grouping, is-clash, is-respectful}
+use Rattle.job.specs.Grouping.{Grouping, Respects, label, together, is-label, is-grouping, is-respectful}
 use Rattle.job.specs.Cost.{cost}
-use Rattle.job.specs.Answers.{checked, priced, Broken, Check-tells, Price-tells}
+use Rattle.job.specs.Answers.{checked, priced, Check-tells, Price-tells}
 use Rattle.job.specs.declared.JobRefusal.{JobRefusal}
 use Rattle.job.specs.declared.JobRefusal.the-variants.{Parts, Size, Lopsided, TooWide}
 use Rattle.job.specs.declared.CostRefusal.{CostRefusal}

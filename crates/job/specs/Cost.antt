@@ -1,7 +1,7 @@
 -- The cost of a grouping: that of weighted cluster editing, over the pairs that are not marked.
 use mathlib.Core.Path.{_≡_}
 use mathlib.Core.List.{List, map}
-use mathlib.Core.Bool.{Bool, cond, not, _||_}
+use mathlib.Core.Bool.{Bool, cond}
 use Prim.Native.Nat.{ℕ}
 use Rattle.std.specs.Iters.{counting}
 use Rattle.std.specs.Joined.{joined}
@@ -18,13 +18,20 @@ row j = map (λ i. (i, j)) (counting 0 j)
 abbrev pub pairs : ℕ → List (ℕ × ℕ)
 pairs n = joined row (counting 0 n)
 
--- what a pair costs for being in different groups: its amount if positive; a marked pair nothing
-abbrev pub separating-charge : {A : Type 0} → Kind A → Job A → List ℕ → ℕ × ℕ → A
-separating-charge k job labels p = cond (marked job (p .0) (p .1) || together labels (p .0) (p .1)) (k .zero) (positive-part k (amount-at k job (p .0) (p .1)))
+-- what a pair costs for being in different groups: its amount if positive
+abbrev pub separating-term : {A : Type 0} → Kind A → Bool → A → A
+separating-term k shared x = cond shared (k .zero) (positive-part k x)
 
--- what a pair costs for sharing a group: its absolute amount if negative; a marked pair nothing
+-- what a pair costs for sharing a group: its absolute amount if negative
+abbrev pub joining-term : {A : Type 0} → Kind A → Bool → A → A
+joining-term k shared x = cond shared (negative-part k x) (k .zero)
+
+-- the same of a pair of parts; a marked pair costs nothing
+abbrev pub separating-charge : {A : Type 0} → Kind A → Job A → List ℕ → ℕ × ℕ → A
+separating-charge k job labels p = cond (marked job (p .0) (p .1)) (k .zero) (separating-term k (together labels (p .0) (p .1)) (amount-at k job (p .0) (p .1)))
+
 abbrev pub joining-charge : {A : Type 0} → Kind A → Job A → List ℕ → ℕ × ℕ → A
-joining-charge k job labels p = cond (marked job (p .0) (p .1) || not (together labels (p .0) (p .1))) (k .zero) (negative-part k (amount-at k job (p .0) (p .1)))
+joining-charge k job labels p = cond (marked job (p .0) (p .1)) (k .zero) (joining-term k (together labels (p .0) (p .1)) (amount-at k job (p .0) (p .1)))
 
 -- the positive amounts between groups
 abbrev pub separating : {A : Type 0} → Kind A → Job A → List ℕ → A

@@ -17,25 +17,48 @@ pub(crate) struct Bill<A> {
 }
 
 // The bill of one pair.
-fn charge<A: Amount>(parts: usize, square: &[A], marks: &[bool], labels: &[usize], i: usize, j: usize) -> Bill<A>
+fn charge<A: Amount>(
+    parts: usize,
+    square: &[A],
+    marks: &[bool],
+    labels: &[usize],
+    i: usize,
+    j: usize,
+) -> Bill<A>
     requires { ⌜ Sized (job-of parts (now square) (now marks)) ⌝ ∗ ⌜ length (now labels) ≡ parts ⌝ ∗ ⌜ i < parts ⌝ ∗ ⌜ j < parts ⌝ }
     ensures separating { λ r. ⌜ r .separating ≡ separating-charge (A·Amount .kind) (job-of parts (now (square .entry)) (now (marks .entry))) (now (labels .entry)) (i, j) ⌝ }
     ensures joining { λ r. ⌜ r .joining ≡ joining-charge (A·Amount .kind) (job-of parts (now (square .entry)) (now (marks .entry))) (now (labels .entry)) (i, j) ⌝ }
 {
     let zero = A::zero();
     if cell(parts, marks, i, j) {
-        return Bill { separating: zero, joining: zero };
+        return Bill {
+            separating: zero,
+            joining: zero,
+        };
     }
     let amount = cell(parts, square, i, j);
     if labels[i] == labels[j] {
-        Bill { separating: zero, joining: amount.negative_part() }
+        Bill {
+            separating: zero,
+            joining: amount.negative_part(),
+        }
     } else {
-        Bill { separating: amount.positive_part(), joining: zero }
+        Bill {
+            separating: amount.positive_part(),
+            joining: zero,
+        }
     }
 }
 
 // The bill so far, with the pairs i, j for each i below j.
-fn add_row<A: Amount>(so_far: Bill<A>, parts: usize, square: &[A], marks: &[bool], labels: &[usize], j: usize) -> Bill<A>
+fn add_row<A: Amount>(
+    so_far: Bill<A>,
+    parts: usize,
+    square: &[A],
+    marks: &[bool],
+    labels: &[usize],
+    j: usize,
+) -> Bill<A>
     requires { ⌜ Sized (job-of parts (now square) (now marks)) ⌝ ∗ ⌜ length (now labels) ≡ parts ⌝ ∗ ⌜ j < parts ⌝ }
     ensures separating { λ r. ⌜ r .separating ≡ folded (A·Amount .kind .sum) («so_far» .separating) (map (separating-charge (A·Amount .kind) (job-of parts (now (square .entry)) (now (marks .entry))) (now (labels .entry))) (row j)) ⌝ }
     ensures joining { λ r. ⌜ r .joining ≡ folded (A·Amount .kind .sum) («so_far» .joining) (map (joining-charge (A·Amount .kind) (job-of parts (now (square .entry)) (now (marks .entry))) (now (labels .entry))) (row j)) ⌝ }
@@ -47,16 +70,27 @@ fn add_row<A: Amount>(so_far: Bill<A>, parts: usize, square: &[A], marks: &[bool
         separating = separating.sum(pair.separating);
         joining = joining.sum(pair.joining);
     }
-    Bill { separating, joining }
+    Bill {
+        separating,
+        joining,
+    }
 }
 
 // The bill of all pairs.
-pub(crate) fn bill_of<A: Amount>(parts: usize, square: &[A], marks: &[bool], labels: &[usize]) -> Bill<A>
+pub(crate) fn bill_of<A: Amount>(
+    parts: usize,
+    square: &[A],
+    marks: &[bool],
+    labels: &[usize],
+) -> Bill<A>
     requires { ⌜ Sized (job-of parts (now square) (now marks)) ⌝ ∗ ⌜ length (now labels) ≡ parts ⌝ }
     ensures separating { λ r. ⌜ r .separating ≡ separating (A·Amount .kind) (job-of parts (now (square .entry)) (now (marks .entry))) (now (labels .entry)) ⌝ }
     ensures joining { λ r. ⌜ r .joining ≡ joining (A·Amount .kind) (job-of parts (now (square .entry)) (now (marks .entry))) (now (labels .entry)) ⌝ }
 {
-    let mut bill = Bill { separating: A::zero(), joining: A::zero() };
+    let mut bill = Bill {
+        separating: A::zero(),
+        joining: A::zero(),
+    };
     for j in 0..parts {
         bill = add_row(bill, parts, square, marks, labels, j);
     }

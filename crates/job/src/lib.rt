@@ -46,7 +46,8 @@ impl JobRefusal {
         match self {
             JobRefusal::Parts => "too few or too many parts",
             JobRefusal::Size => "square or marks are not as long as the parts ask",
-            JobRefusal::Lopsided => "square or marks are lopsided or hold something on the diagonal",
+            JobRefusal::Lopsided =>
+                "square or marks are lopsided or hold something on the diagonal",
             JobRefusal::TooWide => "an amount of the square is too wide",
         }
     }
@@ -75,7 +76,7 @@ pub impl From<JobRefusal> for CostRefusal as CostRefusalFrom {
     ghost converts = { λ refusal r. r ≡ Job refusal };
 
     fn from(refusal: JobRefusal) -> CostRefusal {
-        CostRefusal::Job(refusal)
+        Self::Job(refusal)
     }
 }
 
@@ -134,7 +135,12 @@ pub fn check<A: Amount>(parts: usize, square: &[A], marks: &[bool]) -> Result<()
 }
 
 // The cost of a grouping: the positive amounts between groups plus the absolute negative ones inside.
-pub fn cost<A: Amount>(parts: usize, square: &[A], marks: &[bool], labels: &[usize]) -> Result<A, CostRefusal>
+pub fn cost<A: Amount>(
+    parts: usize,
+    square: &[A],
+    marks: &[bool],
+    labels: &[usize],
+) -> Result<A, CostRefusal>
     ensures value { λ r. ⌜ r ≡ priced (A·Amount .kind) (job-of parts (now (square .entry)) (now (marks .entry))) (now (labels .entry)) ⌝ }
     ensures tells { λ r. ⌜ Price-tells (A·Amount .kind) (job-of parts (now (square .entry)) (now (marks .entry))) (now (labels .entry)) r ⌝ }
 {

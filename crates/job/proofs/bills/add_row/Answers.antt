@@ -1,4 +1,3 @@
-use mathlib.Core.Path.{_≡_}
 use Rattle.job.specs.Job.{job-of}
 use Rattle.job.specs.Cost.{separating-charge, joining-charge}
 use Rattle.job.proofs.Pairs.{row-step}

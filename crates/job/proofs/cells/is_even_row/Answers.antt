@@ -1,7 +1,6 @@
 use borrow.Author.Needs.{needs}
-use native.Mathlib.Omega.{arith}
 use mathlib.Core.Path.{sym, _∙_}
-use Rattle.job.specs.Job.{job-of, is-even-at}
+use Rattle.job.specs.Job.{is-even-at}
 use Rattle.job.proofs.Every.{every-more, every-fails}
 use Rattle.job.proofs.cells.is_even_row.Needs as need
 

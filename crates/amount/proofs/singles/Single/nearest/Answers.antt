@@ -1,10 +1,10 @@
 use native.Mathlib.Omega.{arith}
 use Rattle.std.proofs.shelf.Signed.{ints, clamps}
 use Rattle.amount.proofs.SingleLaws.{same-single}
-use Rattle.amount.proofs.singles.kind.SingleAmount.opposite.Needs as need
+use Rattle.amount.proofs.singles.Single.nearest.Needs as need
 
 pub returns : need.returns
 returns c = record {
-  kind = same-single _ _ (omega (arith, ints, clamps));
-  exact = omega (arith, ints, clamps);
+  nearest = same-single _ _ (omega (arith, ints, clamps));
+  exact = λ h. omega (arith, ints, clamps);
 }
