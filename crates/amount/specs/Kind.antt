@@ -20,19 +20,20 @@ span-limit = 2 ^ 50
 abbrev pub Exactly-one : Type 0 → Type 0 → Type 0 → Type 0
 Exactly-one P Q R = (P × (Q → ⊥) × (R → ⊥)) ⊎ (((P → ⊥) × Q × (R → ⊥)) ⊎ ((P → ⊥) × (Q → ⊥) × R))
 
--- the laws of an ordered group, each as far as the spans in it total at most the limit
+-- the laws of an ordered group, as far as numbers of limited width can keep them
 pub record Laws {A : Type 0} (k : Kind A) : Type 0 where
+  -- whatever the spans
   pub span-most : (x : A) → k .span x ≤ span-limit
   pub span-zero : k .span (k .zero) ≡ 0
   pub span-opposite : (x : A) → k .span (k .opposite x) ≡ k .span x
+  pub neutral : (x : A) → k .sum (k .zero) x ≡ x
+  pub ordered : (x y : A) → Exactly-one (k .below x y ≡ true) (x ≡ y) (k .below y x ≡ true)
+  pub transitive : (x y z : A) → k .below x y ≡ true → k .below y z ≡ true → k .below x z ≡ true
+  -- where the spans of what is summed total at most the limit
   pub span-sum : (x y : A) → k .span x + k .span y ≤ span-limit → k .span (k .sum x y) ≤ k .span x + k .span y
   pub commutes : (x y : A) → k .span x + k .span y ≤ span-limit → k .sum x y ≡ k .sum y x
   pub associates : (x y z : A) → k .span x + k .span y + k .span z ≤ span-limit → k .sum (k .sum x y) z ≡ k .sum x (k .sum y z)
-  pub neutral : (x : A) → k .sum (k .zero) x ≡ x
   pub cancels : (x : A) → 2 * k .span x ≤ span-limit → k .sum x (k .opposite x) ≡ k .zero
-  -- these two whatever the spans
-  pub ordered : (x y : A) → Exactly-one (k .below x y ≡ true) (x ≡ y) (k .below y x ≡ true)
-  pub transitive : (x y z : A) → k .below x y ≡ true → k .below y z ≡ true → k .below x z ≡ true
   -- adding the same to both sides keeps the order
   pub shifts : (x y z : A) → k .span x + k .span y + k .span z ≤ span-limit → k .below x y ≡ true → k .below (k .sum x z) (k .sum y z) ≡ true
 

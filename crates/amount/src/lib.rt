@@ -17,16 +17,18 @@ pub use ranks::kind::RankedAmount;
 pub use singles::Single;
 pub use singles::kind::SingleAmount;
 
-// The widest span of an amount, 2^50.
-pub(crate) const LIMIT: i64 = 1 << 50;
+// The max-span span of an amount, 2^50.
+pub(crate) const SPAN_LIMIT: i64 = 1 << 50;
 
 // Why an amount is not made.
 #[derive(Clone, Copy, PartialEq, Eq, Debug)]
 pub enum WidthRefusal {
+    // a number is above the limit, or below its opposite
     TooWide,
 }
 
 impl WidthRefusal {
+    // The number by which users know it.
     pub fn number(self) -> u8
         ensures { λ r. ⌜ r ≡ width-number self ⌝ }
     {
@@ -60,33 +62,41 @@ pub trait Amount: Copy {
 
     law laws: { Laws kind };
 
+    // The amount that costs nothing.
     fn zero() -> Self
         ensures { λ r. ⌜ r ≡ kind .zero ⌝ };
 
+    // The sum of two amounts.
     fn sum(self, other: Self) -> Self
         ensures { λ r. ⌜ r ≡ kind .sum self other ⌝ };
 
+    // What cancels the amount.
     fn opposite(self) -> Self
         ensures { λ r. ⌜ r ≡ kind .opposite self ⌝ };
 
+    // Whether it is below another in the order of its kind.
     fn is_below(self, other: Self) -> bool
         ensures { λ r. ⌜ r ≡ kind .below self other ⌝ };
 
+    // How far it reaches from zero.
     fn span(self) -> u64
         ensures { λ r. ⌜ r ≡ kind .span self ⌝ };
 
+    // Whether it is above zero.
     fn is_positive(self) -> bool
         ensures { λ r. ⌜ r ≡ positive kind self ⌝ }
     {
         Self::zero().is_below(self)
     }
 
+    // Whether it is below zero.
     fn is_negative(self) -> bool
         ensures { λ r. ⌜ r ≡ negative kind self ⌝ }
     {
         self.is_below(Self::zero())
     }
 
+    // The opposite of a negative one; any other itself.
     fn absolute(self) -> Self
         ensures { λ r. ⌜ r ≡ absolute kind self ⌝ }
     {
@@ -97,12 +107,14 @@ pub trait Amount: Copy {
         }
     }
 
+    // The lesser of two.
     fn lesser(self, other: Self) -> Self
         ensures { λ r. ⌜ r ≡ lesser kind self other ⌝ }
     {
         if other.is_below(self) { other } else { self }
     }
 
+    // A positive one itself; for any other zero.
     fn positive_part(self) -> Self
         ensures { λ r. ⌜ r ≡ positive-part kind self ⌝ }
     {
@@ -113,13 +125,15 @@ pub trait Amount: Copy {
         }
     }
 
+    // The opposite of a negative one; for any other zero.
     fn negative_part(self) -> Self
         ensures { λ r. ⌜ r ≡ negative-part kind self ⌝ }
     {
-        if self.is_negative() {
-            self.absolute()
+        let zero = Self::zero();
+        if self.is_below(zero) {
+            self.opposite()
         } else {
-            Self::zero()
+            zero
         }
     }
 }
@@ -132,6 +146,7 @@ pub fn is_same<A: Amount>(x: A, y: A) -> bool
     !x.is_below(y) && !y.is_below(x)
 }
 
+// Whether one is positive and the other negative.
 fn has_opposite_signs<A: Amount>(x: A, y: A) -> bool
     ensures { λ r. ⌜ r ≡ opposite-signs (A·Amount .kind) x y ⌝ }
 {

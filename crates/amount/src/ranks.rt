@@ -4,8 +4,8 @@ ghost use Prim.Native.Nat.{_≤_, max};
 ghost use lib.IntN.{natAbs};
 ghost use Rattle.std.specs.Results.{Cases};
 ghost use Rattle.amount.specs.Kind.{span-limit};
-ghost use Rattle.amount.specs.declared.WidthRefusal.the-variants.{TooWide};
-use crate::LIMIT;
+ghost use Rattle.amount.specs.Refusals.{width-number};
+use crate::SPAN_LIMIT;
 use crate::WidthRefusal;
 
 pub(crate) mod kind;
@@ -22,20 +22,26 @@ pub struct Ranked {
 impl Ranked {
     // The amount of two numbers; refused where one is too wide.
     pub fn new(first: i64, second: i64) -> Result<Ranked, WidthRefusal>
-        ensures { λ r. ⌜ Cases r (λ s. (s .first ≡ first) × (s .second ≡ second)) (λ e. (e ≡ TooWide) × (max (natAbs first) (natAbs second) ≤ span-limit → ⊥)) ⌝ }
+        ensures { λ r. ⌜ Cases r (λ s. (s .first ≡ first) × (s .second ≡ second)) (λ e. (width-number e ≡ 4) × (max (natAbs first) (natAbs second) ≤ span-limit → ⊥)) ⌝ }
     {
-        if first > LIMIT || first < -LIMIT || second > LIMIT || second < -LIMIT {
+        if first > SPAN_LIMIT
+            || first < -SPAN_LIMIT
+            || second > SPAN_LIMIT
+            || second < -SPAN_LIMIT
+        {
             return Err(WidthRefusal::TooWide);
         }
         Ok(Ranked { first, second })
     }
 
+    // The first rank.
     pub fn first(self) -> i64
         ensures { λ r. ⌜ r ≡ self .first ⌝ }
     {
         self.first
     }
 
+    // The second rank.
     pub fn second(self) -> i64
         ensures { λ r. ⌜ r ≡ self .second ⌝ }
     {

@@ -4,8 +4,8 @@ ghost use Prim.Native.Nat.{_≤_};
 ghost use lib.IntN.{natAbs};
 ghost use Rattle.std.specs.Results.{Cases};
 ghost use Rattle.amount.specs.Kind.{span-limit};
-ghost use Rattle.amount.specs.declared.WidthRefusal.the-variants.{TooWide};
-use crate::LIMIT;
+ghost use Rattle.amount.specs.Refusals.{width-number};
+use crate::SPAN_LIMIT;
 use crate::WidthRefusal;
 
 pub(crate) mod kind;
@@ -20,14 +20,15 @@ pub struct Single {
 impl Single {
     // The amount of a number; refused where it is too wide.
     pub fn new(value: i64) -> Result<Single, WidthRefusal>
-        ensures { λ r. ⌜ Cases r (λ s. s .value ≡ value) (λ e. (e ≡ TooWide) × (natAbs value ≤ span-limit → ⊥)) ⌝ }
+        ensures { λ r. ⌜ Cases r (λ s. s .value ≡ value) (λ e. (width-number e ≡ 4) × (natAbs value ≤ span-limit → ⊥)) ⌝ }
     {
-        if value > LIMIT || value < -LIMIT {
+        if value > SPAN_LIMIT || value < -SPAN_LIMIT {
             return Err(WidthRefusal::TooWide);
         }
         Ok(Single { value })
     }
 
+    // The number.
     pub fn value(self) -> i64
         ensures { λ r. ⌜ r ≡ self .value ⌝ }
     {

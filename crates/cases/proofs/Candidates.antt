@@ -11,7 +11,7 @@ use Rattle.std.specs.Joined.{joined}
 use Rattle.std.specs.shelf.Lists.{All}
 use Rattle.std.proofs.shelf.Tests.{cases-eq, and-parts, and-from, or-cases, both-ways, not-from-true, not-true}
 use Rattle.amount.specs.Kind.{Kind, At-most}
-use Rattle.job.specs.Job.{Job, Even}
+use Rattle.job.specs.Job.{Job, Mirrored}
 use Rattle.job.specs.Grouping.{Grouping, Respects, is-grouping, is-respectful}
 use Rattle.job.specs.Cost.{cost, Least}
 use Rattle.job.proofs.Told.{grouping-tells, respect-tells}
@@ -55,7 +55,7 @@ of-candidates P p (suc m) h (x ∷ xs) e l =
 
 -- the test of one candidate: no respectful grouping, or not below
 abbrev pub is-no-less : {A : Type 0} → Kind A → Job A → A → List ℕ → Bool
-is-no-less k job x labels = not (is-grouping (job .parts) labels && is-respectful job labels) || not (k .below (cost k job labels) x)
+is-no-less k job x labels = not (is-grouping (job .parts) labels && is-respectful (job .parts) (job .marks) labels) || not (k .below (cost k job labels) x)
 
 abbrev pub all-of : {X : Type 0} → (X → Bool) → List X → Bool
 all-of p [] = true
@@ -65,7 +65,7 @@ all-told : {X : Type 0} (p : X → Bool) (xs : List X) → all-of p xs ≡ true 
 all-told p [] e = tt
 all-told p (x ∷ xs) e = let h = and-parts (p x) (all-of p xs) e in (h .0, all-told p xs (h .1))
 
-pub least-by-trying : {A : Type 0} (k : Kind A) (job : Job A) (x : A) (labels : List ℕ) → Even k job → length labels ≡ job .parts → is-grouping (job .parts) labels ≡ true → is-respectful job labels ≡ true → cost k job labels ≡ x → all-of (is-no-less k job x) (candidates 0 (job .parts)) ≡ true → Least k job x
+pub least-by-trying : {A : Type 0} (k : Kind A) (job : Job A) (x : A) (labels : List ℕ) → Mirrored k job → length labels ≡ job .parts → is-grouping (job .parts) labels ≡ true → is-respectful (job .parts) (job .marks) labels ≡ true → cost k job labels ≡ x → all-of (is-no-less k job x) (candidates 0 (job .parts)) ≡ true → Least k job x
 least-by-trying {A} k job x labels even n g r c t = record {
   labels = labels;
   grouping = grouping-tells (job .parts) labels n .0 g;
@@ -75,11 +75,11 @@ least-by-trying {A} k job x labels even n g r c t = record {
 }
   where
     told : (others : List ℕ) → Grouping (job .parts) others → Respects job others → is-no-less k job x others ≡ true → At-most k x (cost k job others)
-    told others grouping respects e = pick (or-cases (not (is-grouping (job .parts) others && is-respectful job others)) (not (k .below (cost k job others) x)) e)
+    told others grouping respects e = pick (or-cases (not (is-grouping (job .parts) others && is-respectful (job .parts) (job .marks) others)) (not (k .below (cost k job others) x)) e)
       where
-        yes-both : (is-grouping (job .parts) others && is-respectful job others) ≡ true
+        yes-both : (is-grouping (job .parts) others && is-respectful (job .parts) (job .marks) others) ≡ true
         yes-both = and-from _ _ (grouping-tells (job .parts) others (grouping .counted) .1 grouping) (respect-tells k job others even .1 respects)
 
-        pick : (not (is-grouping (job .parts) others && is-respectful job others) ≡ true) ⊎ (not (k .below (cost k job others) x) ≡ true) → At-most k x (cost k job others)
+        pick : (not (is-grouping (job .parts) others && is-respectful (job .parts) (job .marks) others) ≡ true) ⊎ (not (k .below (cost k job others) x) ≡ true) → At-most k x (cost k job others)
         pick (inl no-grouping) = absurd (both-ways _ (not-from-true _ yes-both) no-grouping)
         pick (inr not-below) = not-true _ not-below

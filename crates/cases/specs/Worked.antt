@@ -7,7 +7,8 @@ use lib.Dec.{eqb}
 use lib.IntN.{ℤ, pos, negℤ}
 use Rattle.std.specs.Iters.{counting}
 use Rattle.std.specs.Joined.{joined}
-use Rattle.std.specs.declared.result.Result.the-variants.{Ok, Err}
+use Rattle.std.specs.declared.option.Option.the-variants.{Some}
+use Rattle.std.specs.declared.result.Result.the-variants.{Ok}
 use Rattle.amount.specs.Kind.{Kind}
 use Rattle.amount.specs.Single.{single, single-kind}
 use Rattle.amount.specs.Ranked.{ranked, ranked-kind}
@@ -15,9 +16,8 @@ use Rattle.amount.specs.declared.singles.Single.{Single}
 use Rattle.amount.specs.declared.ranks.Ranked.{Ranked}
 use Rattle.job.specs.Job.{Job, job-of}
 use Rattle.job.specs.Cost.{Least}
-use Rattle.job.specs.Answers.{priced}
-use Rattle.job.specs.declared.CostRefusal.{CostRefusal}
-use Rattle.job.specs.declared.CostRefusal.the-variants.{Marked}
+use Rattle.job.specs.Answers.{priced, refused-with}
+use Rattle.job.specs.Refusals.{cost-number}
 
 -- a value for a pair of parts
 pub record Entry (X : Type 0) : Type 0 where
@@ -52,16 +52,18 @@ in-ranks = job-with ranked-kind 3 (at 0 1 (ranked (pos 1) (pos 0)) ∷ at 0 2 (r
 abbrev pub mark-01 : List (Entry Bool)
 mark-01 = at 0 1 true ∷ []
 
--- a worked case: a grouping with its cost or its refusal, or the least cost of a job
+-- a worked case: a grouping with its cost, or with the number that it is refused with, or the least cost of a job
 pub data Case : Type 0 where
   costs : Job Single → List ℕ → ℤ → Case
-  refused : Job Single → List ℕ → CostRefusal → Case
+  costs-ranked : Job Ranked → List ℕ → ℤ → ℤ → Case
+  refused : Job Single → List ℕ → ℕ → Case
   least : Job Single → ℤ → Case
   least-ranked : Job Ranked → ℤ → ℤ → Case
 
 abbrev pub Holds : Case → Type 0
 Holds (costs job labels z) = priced single-kind job labels ≡ Ok (single z)
-Holds (refused job labels refusal) = priced single-kind job labels ≡ Err refusal
+Holds (costs-ranked job labels a b) = priced ranked-kind job labels ≡ Ok (ranked a b)
+Holds (refused job labels number) = refused-with cost-number (priced single-kind job labels) ≡ Some number
 Holds (least job z) = Least single-kind job (single z)
 Holds (least-ranked job a b) = Least ranked-kind job (ranked a b)
 
@@ -74,7 +76,8 @@ worked-cases =
     ∷ costs (plain []) (0 ∷ 0 ∷ 0 ∷ []) (pos 4)
     ∷ least (plain []) (pos 3)
     ∷ costs (plain mark-01) (0 ∷ 1 ∷ 1 ∷ []) (pos 0)
-    ∷ refused (plain mark-01) (0 ∷ 0 ∷ 2 ∷ []) Marked
+    ∷ refused (plain mark-01) (0 ∷ 0 ∷ 2 ∷ []) 6
     ∷ least (plain mark-01) (pos 0)
+    ∷ costs-ranked in-ranks (0 ∷ 0 ∷ 2 ∷ []) (pos 0) (pos 900)
     ∷ least-ranked in-ranks (pos 0) (pos 900)
     ∷ []

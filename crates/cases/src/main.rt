@@ -2,7 +2,9 @@
 ghost use mathlib.Core.Path.{_≡_};
 ghost use lib.ListN.{length};
 ghost use Rattle.std.specs.shelf.Lists.{All};
-ghost use Rattle.cases.specs.Worked.{worked-cases, Holds};
+ghost use mathlib.Core.List.{[], _∷_};
+ghost use Rattle.cases.specs.Cheaper.{cheaper-of};
+ghost use Rattle.cases.specs.Worked.{square-of, at, worked-cases, Holds};
 use amount::Amount;
 use amount::Ranked;
 use amount::RankedAmount;
@@ -19,6 +21,8 @@ use std::error::AnyError;
 
 #[cfg(test)]
 mod tests;
+
+const PARTS: usize = 3;
 
 // Every grouping of three parts.
 const GROUPINGS: [[usize; 3]; 5] = [[0, 1, 2], [0, 0, 2], [0, 1, 1], [0, 1, 0], [0, 0, 0]];
@@ -53,17 +57,21 @@ pub fn worked_cases() -> usize
     ensures counted { λ r. ⌜ r ≡ length worked-cases ⌝ }
     ensures hold { λ _. ⌜ All Holds worked-cases ⌝ }
 {
-    10
+    11
 }
 
 // The square of three parts, by the amounts of the pairs 0-1, 0-2 and 1-2.
-fn square_of<A: Amount>(first: A, second: A, third: A) -> [A; 9] {
+fn square_of<A: Amount>(first: A, second: A, third: A) -> [A; 9]
+    ensures { λ r. ⌜ r ≡ square-of (A·Amount .kind .zero) 3 (at 0 1 first ∷ at 0 2 second ∷ at 1 2 third ∷ []) ⌝ }
+{
     let none = A::zero();
     [none, first, second, first, none, third, second, third, none]
 }
 
 // The cheaper of the best so far and one more; of two at one price the first.
-fn cheaper<A: Amount>(best: Option<(usize, A)>, place: usize, price: A) -> Option<(usize, A)> {
+fn cheaper<A: Amount>(best: Option<(usize, A)>, place: usize, price: A) -> Option<(usize, A)>
+    ensures { λ r. ⌜ r ≡ cheaper-of (A·Amount .kind) best (place, price) ⌝ }
+{
     match best {
         Some((held, least)) if !price.is_below(least) => Some((held, least)),
         _ => Some((place, price)),
@@ -74,7 +82,7 @@ fn cheaper<A: Amount>(best: Option<(usize, A)>, place: usize, price: A) -> Optio
 fn cheapest<A: Amount>(square: &[A], marks: &[bool]) -> Option<(usize, A)> {
     let mut best = None;
     for (place, labels) in GROUPINGS.iter().enumerate() {
-        if let Ok(price) = cost(3, square, marks, labels) {
+        if let Ok(price) = cost(PARTS, square, marks, labels) {
             best = cheaper(best, place, price);
         }
     }
@@ -88,7 +96,7 @@ fn price_one<A: Shown>(
     marks: &[bool],
     labels: &[usize],
 ) -> Result<(), AnyError> {
-    match cost(3, square, marks, labels) {
+    match cost(PARTS, square, marks, labels) {
         Ok(price) => {
             let text = price.text(rt.alloc())?;
             println!(rt, "  {labels:?} costs {text}")?;
@@ -134,6 +142,7 @@ fn show_check(
     Ok(())
 }
 
+// Some jobs that are refused, and one that is not.
 fn show_refusals(rt: &LibcRuntime) -> Result<(), AnyError> {
     let zero = Single::zero();
     let widest = Single::new(1_000_000)?;

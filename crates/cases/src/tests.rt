@@ -6,11 +6,11 @@ use amount::WidthRefusalDebug;
 use job::cost;
 use std::test::*;
 
-// The number of the refusal, and 0 where the grouping is priced.
-fn refusal(parts: usize, square: &[Single], marks: &[bool], labels: &[usize]) -> u8 {
+// The number of the refusal, absent where the grouping is priced.
+fn refusal(parts: usize, square: &[Single], marks: &[bool], labels: &[usize]) -> Option<u8> {
     match cost(parts, square, marks, labels) {
-        Ok(_) => 0,
-        Err(refusal) => refusal.number(),
+        Ok(_) => None,
+        Err(refusal) => Some(refusal.number()),
     }
 }
 
@@ -25,20 +25,29 @@ fn refusals_in_order() -> Result<(), Fail> {
     let good = [zero, fits, fits, zero];
     let free = [false; 4];
     let marked = [false, true, true, false];
-    let given = [
-        refusal(0, &[], &[], &[]),
-        refusal(33, &lopsided, &free, &[]),
-        refusal(2, &[wide; 3], &free, &[1]),
-        refusal(2, &lopsided, &[true; 5], &[1]),
-        refusal(2, &lopsided, &free, &[1]),
-        refusal(2, &diagonal, &free, &[1]),
-        refusal(2, &too_wide, &[false, true, false, false], &[1]),
-        refusal(2, &too_wide, &[true, false, false, false], &[1]),
-        refusal(2, &too_wide, &marked, &[1]),
-        refusal(2, &good, &marked, &[1]),
-        refusal(2, &good, &marked, &[1, 1]),
-        refusal(2, &good, &marked, &[0, 0]),
-        refusal(2, &good, &free, &[0, 0]),
+    let rows = [
+        (refusal(0, &[], &[], &[]), Some(1)),
+        (refusal(33, &lopsided, &free, &[]), Some(1)),
+        (refusal(2, &[wide; 3], &free, &[1]), Some(2)),
+        (refusal(2, &lopsided, &[true; 5], &[1]), Some(2)),
+        (refusal(2, &lopsided, &free, &[1]), Some(3)),
+        (refusal(2, &diagonal, &free, &[1]), Some(3)),
+        (
+            refusal(2, &too_wide, &[false, true, false, false], &[1]),
+            Some(3),
+        ),
+        (
+            refusal(2, &too_wide, &[true, false, false, false], &[1]),
+            Some(3),
+        ),
+        (refusal(2, &too_wide, &marked, &[1]), Some(4)),
+        (refusal(2, &good, &marked, &[1]), Some(2)),
+        (refusal(2, &good, &marked, &[1, 1]), Some(7)),
+        (refusal(2, &good, &marked, &[0, 0]), Some(6)),
+        (refusal(2, &good, &free, &[0, 0]), None),
     ];
-    check_eq(given, [1, 1, 2, 2, 3, 3, 3, 3, 4, 2, 7, 6, 0])
+    for (given, expected) in rows {
+        check_eq(given, expected)?;
+    }
+    Ok(())
 }

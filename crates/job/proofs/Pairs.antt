@@ -13,10 +13,10 @@ use Rattle.job.specs.Cost.{row, pairs}
 abbrev pub row-upto : ℕ → ℕ → List (ℕ × ℕ)
 row-upto j m = map (λ i. (i, j)) (counting 0 m)
 
-counting-more : (m : ℕ) → counting 0 (m + 1) ≡ counting 0 m ++ (m ∷ [])
+pub counting-more : (m : ℕ) → counting 0 (m + 1) ≡ counting 0 m ++ (m ∷ [])
 counting-more m = sym (map-id (counting 0 (m + 1))) ∙ map-counting-more (λ (x : ℕ). x) 0 m m (omega arith) ∙ ap (λ v. v ++ (m ∷ [])) (map-id (counting 0 m))
 
-pairs-more : (j : ℕ) → pairs (j + 1) ≡ pairs j ++ row j
+pub pairs-more : (j : ℕ) → pairs (j + 1) ≡ pairs j ++ row j
 pairs-more j = rw counting-more (sym (joined-more row [] (counting 0 j) j))
 
 pub folded-append : {X Y : Type 0} (f : Y → X → Y) (a : Y) (xs ys : List X) → folded f a (xs ++ ys) ≡ folded f (folded f a xs) ys

@@ -2,19 +2,20 @@
 use mathlib.Core.Path.{_≡_}
 use mathlib.Core.List.{List, map}
 use mathlib.Core.Bool.{Bool, cond}
-use Prim.Native.Nat.{ℕ}
+use Prim.Native.Nat.{ℕ, _+_, _≤_}
 use Rattle.std.specs.Iters.{counting}
 use Rattle.std.specs.Joined.{joined}
-use Rattle.amount.specs.Kind.{Kind, At-most}
+use Rattle.amount.specs.Kind.{Kind, span-limit, At-most}
 use Rattle.amount.specs.Signs.{positive-part, negative-part}
-use Rattle.amount.specs.Totals.{total}
+use Rattle.amount.specs.Totals.{total, spans}
 use Rattle.job.specs.Job.{Job, amount-at, marked}
 use Rattle.job.specs.Grouping.{Grouping, Respects, together}
 
--- the pairs i, j of parts with i below j
+-- the pairs of j with each part below it
 abbrev pub row : ℕ → List (ℕ × ℕ)
 row j = map (λ i. (i, j)) (counting 0 j)
 
+-- all pairs i, j with i below j, row by row
 abbrev pub pairs : ℕ → List (ℕ × ℕ)
 pairs n = joined row (counting 0 n)
 
@@ -41,8 +42,13 @@ separating k job labels = total k (map (separating-charge k job labels) (pairs (
 abbrev pub joining : {A : Type 0} → Kind A → Job A → List ℕ → A
 joining k job labels = total k (map (joining-charge k job labels) (pairs (job .parts)))
 
+-- the cost is their sum
 abbrev pub cost : {A : Type 0} → Kind A → Job A → List ℕ → A
 cost k job labels = k .sum (separating k job labels) (joining k job labels)
+
+-- the sums are exact: all that is charged spans at most the limit together
+abbrev pub Exact-cost : {A : Type 0} → Kind A → Job A → List ℕ → Type 0
+Exact-cost k job labels = spans k (map (separating-charge k job labels) (pairs (job .parts))) + spans k (map (joining-charge k job labels) (pairs (job .parts))) ≤ span-limit
 
 -- the least cost: some grouping that respects the marks has it, and none has less
 pub record Least {A : Type 0} (k : Kind A) (job : Job A) (least : A) : Type 0 where

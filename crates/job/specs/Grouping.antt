@@ -6,12 +6,12 @@ use Prim.Native.Nat.{ℕ, _<_, _≤_}
 use lib.Dec.{eqb, leb}
 use lib.ListN.{length, getD}
 use Rattle.job.specs.Tests.{every}
-use Rattle.job.specs.Job.{Job, marked}
+use Rattle.job.specs.Job.{Job, mark-at, marked}
 
 abbrev pub label : List ℕ → ℕ → ℕ
 label labels p = getD labels p 0
 
--- n labels, and the label of each part is a part of its group and the smallest one there
+-- n labels, and the label of each part p is a part of its group and the smallest one there (so it is at most p)
 pub record Grouping (n : ℕ) (labels : List ℕ) : Type 0 where
   pub counted : length labels ≡ n
   pub inside : (p : ℕ) → p < n → label labels (label labels p) ≡ label labels p
@@ -34,8 +34,8 @@ abbrev pub is-grouping : ℕ → List ℕ → Bool
 is-grouping n labels = every n (is-label labels)
 
 -- the pair i, j is marked and shares a group
-abbrev pub is-clash : {A : Type 0} → Job A → List ℕ → ℕ → ℕ → Bool
-is-clash job labels i j = marked job i j && together labels i j
+abbrev pub is-clash : ℕ → List Bool → List ℕ → ℕ → ℕ → Bool
+is-clash n marks labels i j = mark-at n marks i j && together labels i j
 
-abbrev pub is-respectful : {A : Type 0} → Job A → List ℕ → Bool
-is-respectful job labels = every (job .parts) (λ j. every j (λ i. not (is-clash job labels i j)))
+abbrev pub is-respectful : ℕ → List Bool → List ℕ → Bool
+is-respectful n marks labels = every n (λ j. every j (λ i. not (is-clash n marks labels i j)))

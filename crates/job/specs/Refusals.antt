@@ -3,13 +3,13 @@ use mathlib.Core.List.{List}
 use Prim.Native.Nat.{ℕ}
 use lib.Chars.{codes}
 use Rattle.job.specs.declared.JobRefusal.{JobRefusal}
-use Rattle.job.specs.declared.JobRefusal.the-variants.{Parts, Size, Lopsided, TooWide}
+use Rattle.job.specs.declared.JobRefusal.the-variants.{PartCount, WrongSize, Lopsided, TooWide}
 use Rattle.job.specs.declared.CostRefusal.{CostRefusal}
 use Rattle.job.specs.declared.CostRefusal.the-variants.{Job, LabelCount, NotGrouping, Marked}
 
 abbrev pub job-number : JobRefusal → ℕ
-job-number Parts = 1
-job-number Size = 2
+job-number PartCount = 1
+job-number WrongSize = 2
 job-number Lopsided = 3
 job-number TooWide = 4
 
@@ -20,8 +20,8 @@ cost-number NotGrouping = 7
 cost-number Marked = 6
 
 abbrev pub job-text : JobRefusal → List ℕ
-job-text Parts = codes "too few or too many parts"
-job-text Size = codes "square or marks are not as long as the parts ask"
+job-text PartCount = codes "too few or too many parts"
+job-text WrongSize = codes "square or marks are not as long as the parts ask"
 job-text Lopsided = codes "square or marks are lopsided or hold something on the diagonal"
 job-text TooWide = codes "an amount of the square is too wide"
 

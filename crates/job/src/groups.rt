@@ -30,10 +30,10 @@ pub(crate) fn is_grouping(labels: &[usize]) -> bool
     true
 }
 
-// Whether a pair is marked and shares a group. (The amounts play no part.)
+// Whether a pair is marked and shares a group.
 fn is_clash(parts: usize, marks: &[bool], labels: &[usize], i: usize, j: usize) -> bool
     requires { ⌜ length (now marks) ≡ parts * parts ⌝ ∗ ⌜ length (now labels) ≡ parts ⌝ ∗ ⌜ i < parts ⌝ ∗ ⌜ j < parts ⌝ }
-    ensures { λ r. ⌜ r ≡ is-clash (job-of {A = ℕ} parts [] (now (marks .entry))) (now (labels .entry)) i j ⌝ }
+    ensures { λ r. ⌜ r ≡ is-clash parts (now (marks .entry)) (now (labels .entry)) i j ⌝ }
 {
     cell(parts, marks, i, j) && labels[i] == labels[j]
 }
@@ -41,7 +41,7 @@ fn is_clash(parts: usize, marks: &[bool], labels: &[usize], i: usize, j: usize) 
 // Whether no marked pair i, j with i below j shares a group.
 fn is_row_respectful(parts: usize, marks: &[bool], labels: &[usize], j: usize) -> bool
     requires { ⌜ length (now marks) ≡ parts * parts ⌝ ∗ ⌜ length (now labels) ≡ parts ⌝ ∗ ⌜ j < parts ⌝ }
-    ensures { λ r. ⌜ r ≡ every j (λ i. not (is-clash (job-of {A = ℕ} parts [] (now (marks .entry))) (now (labels .entry)) i j)) ⌝ }
+    ensures { λ r. ⌜ r ≡ every j (λ i. not (is-clash parts (now (marks .entry)) (now (labels .entry)) i j)) ⌝ }
 {
     for i in 0..j {
         if is_clash(parts, marks, labels, i, j) {
@@ -54,7 +54,7 @@ fn is_row_respectful(parts: usize, marks: &[bool], labels: &[usize], j: usize) -
 // Whether no marked pair shares a group.
 pub(crate) fn is_respectful(parts: usize, marks: &[bool], labels: &[usize]) -> bool
     requires { ⌜ length (now marks) ≡ parts * parts ⌝ ∗ ⌜ length (now labels) ≡ parts ⌝ }
-    ensures { λ r. ⌜ r ≡ is-respectful (job-of {A = ℕ} parts [] (now (marks .entry))) (now (labels .entry)) ⌝ }
+    ensures { λ r. ⌜ r ≡ is-respectful parts (now (marks .entry)) (now (labels .entry)) ⌝ }
 {
     for j in 0..parts {
         if !is_row_respectful(parts, marks, labels, j) {

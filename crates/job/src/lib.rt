@@ -1,7 +1,10 @@
 // Jobs, groupings of their parts, and what a grouping costs.
+ghost use mathlib.Core.Bool.{true};
 ghost use mathlib.Core.Path.{_≡_};
+ghost use Rattle.std.specs.Results.{isOk};
 ghost use Rattle.std.specs.declared.option.Option.the-variants.{Some};
-ghost use Rattle.job.specs.Answers.{checked, priced, Check-tells, Price-tells};
+ghost use Rattle.job.specs.Answers.{checked, priced, refused-with, First-broken, job-rules, cost-rules};
+ghost use Rattle.job.specs.Cost.{Exact-cost};
 ghost use Rattle.job.specs.Job.{job-of};
 ghost use Rattle.job.specs.Refusals.{job-number, job-text, cost-number, cost-text};
 ghost use Rattle.job.specs.declared.CostRefusal.the-variants.{Job};
@@ -14,27 +17,32 @@ mod cells;
 mod groups;
 
 // The most parts of a job.
-pub const MOST_PARTS: usize = 32;
+pub const MAX_PARTS: usize = 32;
 
-// The widest span of an amount of a job.
-pub const WIDEST: u64 = 1_000_000;
+// The max-span span of an amount of a job.
+pub const MAX_SPAN: u64 = 1_000_000;
 
 // Why a job is refused.
 #[derive(Clone, Copy, PartialEq, Eq, Debug)]
 pub enum JobRefusal {
-    Parts,
-    Size,
+    // n is not from 1 to 32
+    PartCount,
+    // square or marks are not n by n
+    WrongSize,
+    // asymmetric, or something on the diagonal
     Lopsided,
+    // a span is above 1,000,000
     TooWide,
 }
 
 impl JobRefusal {
+    // The number by which users know it.
     pub fn number(self) -> u8
         ensures { λ r. ⌜ r ≡ job-number self ⌝ }
     {
         match self {
-            JobRefusal::Parts => 1,
-            JobRefusal::Size => 2,
+            JobRefusal::PartCount => 1,
+            JobRefusal::WrongSize => 2,
             JobRefusal::Lopsided => 3,
             JobRefusal::TooWide => 4,
         }
@@ -44,8 +52,8 @@ impl JobRefusal {
         ensures { λ r. ⌜ now r ≡ job-text self ⌝ }
     {
         match self {
-            JobRefusal::Parts => "too few or too many parts",
-            JobRefusal::Size => "square or marks are not as long as the parts ask",
+            JobRefusal::PartCount => "too few or too many parts",
+            JobRefusal::WrongSize => "square or marks are not as long as the parts ask",
             JobRefusal::Lopsided =>
                 "square or marks are lopsided or hold something on the diagonal",
             JobRefusal::TooWide => "an amount of the square is too wide",
@@ -66,9 +74,13 @@ pub impl Error for JobRefusal as JobRefusalError {}
 // Why a grouping is not priced.
 #[derive(Clone, Copy, PartialEq, Eq, Debug)]
 pub enum CostRefusal {
+    // the check of the job refuses
     Job(JobRefusal),
+    // there are not n labels
     LabelCount,
+    // a label is not the smallest part of its group
     NotGrouping,
+    // a marked pair shares a group
     Marked,
 }
 
@@ -81,6 +93,7 @@ pub impl From<JobRefusal> for CostRefusal as CostRefusalFrom {
 }
 
 impl CostRefusal {
+    // The number by which users know it.
     pub fn number(self) -> u8
         ensures { λ r. ⌜ r ≡ cost-number self ⌝ }
     {
@@ -117,15 +130,15 @@ pub impl Error for CostRefusal as CostRefusalError {}
 // The check of a job: it writes nothing.
 pub fn check<A: Amount>(parts: usize, square: &[A], marks: &[bool]) -> Result<(), JobRefusal>
     ensures value { λ r. ⌜ r ≡ checked (A·Amount .kind) (job-of parts (now (square .entry)) (now (marks .entry))) ⌝ }
-    ensures tells { λ r. ⌜ Check-tells (A·Amount .kind) (job-of parts (now (square .entry)) (now (marks .entry))) r ⌝ }
+    ensures tells { λ r. ⌜ First-broken (job-rules (A·Amount .kind) (job-of parts (now (square .entry)) (now (marks .entry)))) (refused-with job-number r) ⌝ }
 {
-    if parts < 1 || parts > MOST_PARTS {
-        return Err(JobRefusal::Parts);
+    if parts < 1 || parts > MAX_PARTS {
+        return Err(JobRefusal::PartCount);
     }
     if square.len() != parts * parts || marks.len() != parts * parts {
-        return Err(JobRefusal::Size);
+        return Err(JobRefusal::WrongSize);
     }
-    if !cells::is_even(parts, square, marks) {
+    if !cells::is_mirrored(parts, square, marks) {
         return Err(JobRefusal::Lopsided);
     }
     if !cells::is_narrow(square) {
@@ -142,7 +155,8 @@ pub fn cost<A: Amount>(
     labels: &[usize],
 ) -> Result<A, CostRefusal>
     ensures value { λ r. ⌜ r ≡ priced (A·Amount .kind) (job-of parts (now (square .entry)) (now (marks .entry))) (now (labels .entry)) ⌝ }
-    ensures tells { λ r. ⌜ Price-tells (A·Amount .kind) (job-of parts (now (square .entry)) (now (marks .entry))) (now (labels .entry)) r ⌝ }
+    ensures tells { λ r. ⌜ First-broken (cost-rules (A·Amount .kind) (job-of parts (now (square .entry)) (now (marks .entry))) (now (labels .entry))) (refused-with cost-number r) ⌝ }
+    ensures exact { λ r. ⌜ (isOk r ≡ true → Exact-cost (A·Amount .kind) (job-of parts (now (square .entry)) (now (marks .entry))) (now (labels .entry))) ⌝ }
 {
     check(parts, square, marks)?;
     if labels.len() != parts {

@@ -6,7 +6,7 @@ ghost use Rattle.amount.specs.Kind.{span-limit};
 ghost use Rattle.amount.specs.Ranked.{ranked, ranked-kind};
 use super::Ranked;
 use crate::Amount;
-use crate::LIMIT;
+use crate::SPAN_LIMIT;
 
 impl Ranked {
     // The amount whose ranks are nearest to two numbers: the numbers themselves where they are not too wide.
@@ -16,8 +16,8 @@ impl Ranked {
         ensures exact_second { λ r. ⌜ (natAbs second ≤ span-limit → r .second ≡ second) ⌝ }
     {
         Ranked {
-            first: first.clamp(-LIMIT, LIMIT),
-            second: second.clamp(-LIMIT, LIMIT),
+            first: first.clamp(-SPAN_LIMIT, SPAN_LIMIT),
+            second: second.clamp(-SPAN_LIMIT, SPAN_LIMIT),
         }
     }
 }

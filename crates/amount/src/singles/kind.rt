@@ -6,7 +6,7 @@ ghost use Rattle.amount.specs.Kind.{span-limit};
 ghost use Rattle.amount.specs.Single.{single, single-kind};
 use super::Single;
 use crate::Amount;
-use crate::LIMIT;
+use crate::SPAN_LIMIT;
 
 impl Single {
     // The amount nearest to a number: the number itself where it is not too wide.
@@ -15,7 +15,7 @@ impl Single {
         ensures exact { λ r. ⌜ (natAbs value ≤ span-limit → r .value ≡ value) ⌝ }
     {
         Single {
-            value: value.clamp(-LIMIT, LIMIT),
+            value: value.clamp(-SPAN_LIMIT, SPAN_LIMIT),
         }
     }
 }

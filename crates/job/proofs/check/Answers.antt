@@ -5,8 +5,8 @@ use Rattle.job.specs.declared.JobRefusal.the-variants.{Lopsided, TooWide}
 use Rattle.job.proofs.Told.{check-told}
 use Rattle.job.proofs.check.Needs as need
 
-pub returns-then-not-is-even : need.returns-then-not-is-even
-returns-then-not-is-even g c = record {
+pub returns-then-not-is-mirrored : need.returns-then-not-is-mirrored
+returns-then-not-is-mirrored g c = record {
   value = search needs;
   tells = check-told (g .A·Amount .kind) (g .A·Amount·met .laws) (job-of (c .args .parts) (c .args .square .now) (c .args .marks .now)) (Err Lopsided) (search needs);
 }
