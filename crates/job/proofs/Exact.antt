@@ -1,23 +1,20 @@
 -- The charges of a sound job span at most the limit together, so that the cost is an exact sum.
-use mathlib.Core.Path.{_≡_, refl, sym, ap, _∙_}
-use mathlib.Core.List.{List, [], _∷_, _++_, map}
-use mathlib.Core.Bool.{Bool, true, false, cond}
+use mathlib.Core.Path.{_≡_, sym, ap, _∙_}
+use mathlib.Core.List.{List, map}
 use mathlib.Core.Logic.{_⊎_, inl, inr}
 use Prim.Native.Nat.{ℕ, zero, suc, _+_, _*_, _<_, _≤_}
 use native.Mathlib.Numerals.{add-one}
-use native.Mathlib.Nat.{mul-le-mul-right, mul-le-mul}
 use native.Mathlib.Omega.{arith}
-use lib.ListN.{length, getD}
-use Rattle.std.specs.Iters.{counting}
+use lib.ListN.{length}
 use Rattle.std.proofs.shelf.Lists.{length-append, getD-past}
 use Rattle.std.proofs.shelf.Counted.{length-map-counting}
 use Rattle.std.proofs.shelf.Tests.{cond-both, cases-lt}
-use Rattle.amount.specs.Kind.{Kind, Laws, span-limit}
+use Rattle.amount.specs.Kind.{Kind, Laws}
 use Rattle.amount.specs.Totals.{spans}
 use Rattle.amount.specs.Signs.{positive-part, negative-part}
 use Rattle.amount.proofs.Totals.{spans-map-le}
 use Rattle.amount.proofs.Signs.{span-positive-part, span-negative-part}
-use Rattle.job.specs.Job.{Job, amount-at, marked, max-parts, max-span, Sound, Narrow}
+use Rattle.job.specs.Job.{Job, amount-at, marked, max-parts, max-span, Narrow}
 use Rattle.job.specs.Grouping.{together}
 use Rattle.job.specs.Cost.{row, pairs, separating-term, joining-term, separating-charge, joining-charge, Exact-cost}
 use Rattle.job.proofs.Pairs.{pairs-more}

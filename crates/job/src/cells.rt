@@ -1,7 +1,6 @@
 // The cells of a job: how they are read, and whether they are mirrored and narrow.
 ghost use mathlib.Core.Path.{_≡_};
 ghost use Prim.Native.Nat.{_+_, _*_, _<_};
-ghost use lib.Dec.{leb};
 ghost use lib.ListN.{length, getD};
 ghost use Rattle.job.specs.Tests.{every};
 ghost use Rattle.job.specs.Job.{job-of, Sized, is-mirrored-at, is-mirrored, is-narrow};

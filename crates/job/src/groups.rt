@@ -1,11 +1,9 @@
 // Groupings: their form, and whether they respect the marks.
 ghost use mathlib.Core.Path.{_≡_};
 ghost use mathlib.Core.Bool.{not};
-ghost use mathlib.Core.List.{[]};
-ghost use Prim.Native.Nat.{ℕ, _*_, _<_};
+ghost use Prim.Native.Nat.{_*_, _<_};
 ghost use lib.ListN.{length};
 ghost use Rattle.job.specs.Tests.{every};
-ghost use Rattle.job.specs.Job.{job-of};
 ghost use Rattle.job.specs.Grouping.{is-label, is-grouping, is-clash, is-respectful};
 use crate::cells::cell;
 

@@ -1,9 +1,6 @@
 use mathlib.Core.Path.{_≡_}
 use mathlib.Core.Bool.{true, not}
-use mathlib.Core.List.{[]}
-use Prim.Native.Nat.{ℕ}
 use Rattle.job.specs.Tests.{every}
-use Rattle.job.specs.Job.{job-of}
 use Rattle.job.specs.Grouping.{is-clash}
 use Rattle.job.proofs.groups.is_row_respectful.Given as given
 

@@ -1,0 +1,14 @@
+pub mod Like
+pub mod Choose
+pub mod Split
+pub mod Cells
+pub mod Good
+pub mod Start
+pub mod Due
+pub mod Joining
+pub mod JoinLaw
+pub mod SeparationLaw
+pub mod LoadLaw
+pub mod Count
+pub mod Respect
+pub mod Reaching

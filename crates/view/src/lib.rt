@@ -1,0 +1,9 @@
+// Boards as views: steps on them, what is booked and what remains, and the law that ties both to the cost.
+ghost use Rattle.view.specs.Law.{Booked-and-remaining, Reached-keeps};
+use amount::Amount;
+
+// The law of boards, for every kind of amount. It does nothing: its contract states what holds of every board that a job leads to.
+pub fn law_of_boards<A: Amount>()
+    ensures law { λ _. ⌜ Booked-and-remaining (A·Amount .kind) ⌝ }
+    ensures keeps { λ _. ⌜ Reached-keeps (A·Amount .kind) ⌝ }
+{}
