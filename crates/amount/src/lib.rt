@@ -17,8 +17,8 @@ pub use ranks::kind::RankedAmount;
 pub use singles::Single;
 pub use singles::kind::SingleAmount;
 
-// The max-span span of an amount, 2^50.
-pub(crate) const SPAN_LIMIT: i64 = 1 << 50;
+// No amount has a span above this, 2^50.
+pub const SPAN_LIMIT: i64 = 1 << 50;
 
 // Why an amount is not made.
 #[derive(Clone, Copy, PartialEq, Eq, Debug)]

@@ -23,7 +23,7 @@ job-of n square marks = record { parts = n; square = square; marks = marks }
 abbrev pub max-parts : ℕ
 max-parts = 32
 
--- the max-span span of an amount of a job
+-- the widest span of an amount of a job
 abbrev pub max-span : ℕ
 max-span = 1000000
 

@@ -19,7 +19,7 @@ mod groups;
 // The most parts of a job.
 pub const MAX_PARTS: usize = 32;
 
-// The max-span span of an amount of a job.
+// The widest span of an amount of a job.
 pub const MAX_SPAN: u64 = 1_000_000;
 
 // Why a job is refused.

@@ -7,7 +7,7 @@ use native.Mathlib.Omega.{arith}
 use native.Mathlib.Numerals.{add-one}
 use native.Mathlib.Nat.{mul-suc, suc-mul, mul-le-mul}
 use lib.ListN.{length}
-use Rattle.std.specs.shelf.Lists.{All}
+use Rattle.std.specs.shelf.Lists.{All, kept-by}
 use Rattle.std.proofs.shelf.Bits.{le-div, div-below}
 use Rattle.std.proofs.shelf.Lists.{length-append}
 use Rattle.std.proofs.shelf.Counted.{length-map-counting}
@@ -19,10 +19,11 @@ use Rattle.job.specs.Cost.{row, pairs}
 use Rattle.job.proofs.Pairs.{pairs-more}
 use Rattle.view.specs.View.{View, width, next, is-open}
 use Rattle.view.specs.Steps.{start, is-other, others, joined, separated}
-use Rattle.view.specs.Law.{pair-count}
+use Rattle.view.specs.Law.{pair-count, open-count}
 use Rattle.view.proofs.Like.{vals, vals-same, summed, summed-like}
 use Rattle.view.proofs.Split.{split-before, split-after, others-pass}
-use Rattle.view.proofs.Good.{Good, Open, New, good-joined, good-separated, other-facts}
+use Rattle.view.specs.Good.{Good}
+use Rattle.view.proofs.Good.{Open, New, good-joined, good-separated, other-facts}
 use Rattle.view.proofs.Due.{open-swap, open-none, map-same}
 use Rattle.view.proofs.Joining.{open-at, open-same, open-new}
 use Rattle.view.proofs.SeparationLaw as apart
@@ -59,6 +60,17 @@ open-one v i j = one (is-open v i j)
 -- how many pairs are open
 abbrev pub opens : View → ℕ
 opens v = summed (map (λ p. open-one v (p .0) (p .1)) (pairs (width v)))
+
+count-summed : (f : ℕ × ℕ → Bool) (ps : List (ℕ × ℕ)) → length (kept-by f ps) ≡ summed (map (λ p. one (f p)) ps)
+count-summed f [] = refl
+count-summed f (p ∷ ps) = go (f p) (count-summed f ps)
+  where
+    go : (t : Bool) → length (kept-by f ps) ≡ summed (map (λ q. one (f q)) ps) → length (cond t (p ∷ kept-by f ps) (kept-by f ps)) ≡ one t + summed (map (λ q. one (f q)) ps)
+    go true h = omega arith
+    go false h = omega arith
+
+pub opens-is : (v : View) → open-count v ≡ opens v
+opens-is v = count-summed (λ p. is-open v (p .0) (p .1)) (pairs (width v))
 
 summed-append : (xs ys : List ℕ) → summed (xs ++ ys) ≡ summed xs + summed ys
 summed-append [] ys = omega arith

@@ -15,9 +15,10 @@ use Rattle.amount.proofs.Totals.{neutral-right, total-map-sum}
 use Rattle.amount.proofs.Signs.{span-positive-part, span-negative-part}
 use Rattle.job.specs.Grouping.{label}
 use Rattle.job.specs.Cost.{pairs, separating-term, joining-term}
-use Rattle.view.specs.View.{View, width, is-open, amount-in}
+use Rattle.view.specs.View.{live-amount, View, width, is-open, amount-in}
 use Rattle.view.specs.Remaining.{share, remaining, first-part}
-use Rattle.view.proofs.Good.{Good, open-is}
+use Rattle.view.specs.Good.{Good}
+use Rattle.view.proofs.Good.{open-is}
 
 -- a pair's term: its negative part inside a group, its positive part between groups
 abbrev pub due : {A : Type 0} → Kind A → Bool → A → A
@@ -25,10 +26,6 @@ due k shared x = cond shared (negative-part k x) (positive-part k x)
 
 abbrev pub open-due : {A : Type 0} → Kind A → View → List A → List ℕ → ℕ → ℕ → A
 open-due k v cells labels i j = cond (is-open v i j) (due k (share v labels i j) (amount-in k v cells i j)) (k .zero)
-
--- the amount of a pair of live ids
-abbrev pub live-amount : {A : Type 0} → Kind A → View → List A → ℕ → ℕ → A
-live-amount k v cells i j = cond (v .live i && v .live j) (amount-in k v cells i j) (k .zero)
 
 pub eqb-swap : (i j : ℕ) → eqb i j ≡ eqb j i
 eqb-swap i j = go (cases-eq i j)

@@ -11,24 +11,10 @@ use Rattle.std.specs.Iters.{counting}
 use Rattle.std.specs.shelf.Lists.{kept-by}
 use Rattle.std.proofs.shelf.Counted.{length-counting}
 use Rattle.std.proofs.shelf.Tests.{cases-eq, eq-eqb, ne-eqb, eqb-true, and-parts, and-from, and-left, and-right, or-cases, both-ways, not-true, cond-true, cond-false}
-use Rattle.job.specs.Job.{max-parts}
+use Rattle.view.specs.Good.{Good}
 use Rattle.view.specs.View.{View, width, ids, next, is-open}
 use Rattle.view.specs.Steps.{is-other, others, joined, separated}
 use Rattle.view.proofs.Split.{before, after, length-perm}
-
-pub record Good (v : View) : Type 0 where
-  pub some : 1 ≤ v .parts
-  pub few : v .parts ≤ max-parts
-  pub live-in : (i : ℕ) → v .live i ≡ true → i < width v
-  pub live-below : (i : ℕ) → v .live i ≡ true → i < next v
-  pub apart-symmetric : (i j : ℕ) → v .apart i j ≡ v .apart j i
-  pub apart-live : (i j : ℕ) → v .apart i j ≡ true → v .live i ≡ true
-  pub apart-other : (i : ℕ) → v .apart i i ≡ false
-  pub holds-live : (i p : ℕ) → v .holds i p ≡ true → v .live i ≡ true
-  pub holds-part : (i p : ℕ) → v .holds i p ≡ true → p < v .parts
-  pub some-part : (i : ℕ) → v .live i ≡ true → (p : ℕ) × (v .holds i p ≡ true)
-  pub held : (p : ℕ) → p < v .parts → (i : ℕ) × (v .holds i p ≡ true)
-  pub held-once : (p i j : ℕ) → v .holds i p ≡ true → v .holds j p ≡ true → i ≡ j
 
 -- what an open pair is
 pub record Open (v : View) (a b : ℕ) : Type 0 where

@@ -19,8 +19,10 @@ use Rattle.view.specs.Steps.{is-other, others, joined, joined-cells, join-own,
 use Rattle.view.specs.Remaining.{Respects-board, share, remaining}
 use Rattle.view.proofs.Like.{vals, vals-same, spans-like, total-like}
 use Rattle.view.proofs.Split.{split-before, split-after, others-pass}
-use Rattle.view.proofs.Good.{Good, Open, New, good-joined, other-facts, live-other, live-new}
-use Rattle.view.proofs.Due.{due, open-due, live-amount, live-none, live-swap, due-none, due-swap, due-under, spans-map-under, map-same, remaining-due}
+use Rattle.view.specs.Good.{Good}
+use Rattle.view.proofs.Good.{Open, New, good-joined, other-facts, live-other, live-new}
+use Rattle.view.specs.View.{live-amount}
+use Rattle.view.proofs.Due.{due, open-due, live-none, live-swap, due-none, due-swap, due-under, spans-map-under, map-same, remaining-due}
 use Rattle.view.proofs.Joining.{open-same, share-same, share-ab, amount-same, amount-new, symmetric-joined, due-other, open-at}
 
 module _ {A : Type 0} (k : Kind A) (laws : Laws k) where

@@ -22,7 +22,8 @@ use Rattle.view.specs.Steps.{is-other, joined, joined-cells, join-other}
 use Rattle.view.specs.Remaining.{Respects-board, first-of, first-part, share}
 use Rattle.view.proofs.Cells.{amount-rewritten}
 use Rattle.view.proofs.Choose.{kept-yes, kept-no, kept-alike}
-use Rattle.view.proofs.Good.{Good, Open, New, good-joined, other-facts, live-cases, live-other, live-new, holds-at-new, holds-elsewhere, apart-at-new, apart-elsewhere}
+use Rattle.view.specs.Good.{Good}
+use Rattle.view.proofs.Good.{Open, New, good-joined, other-facts, live-cases, live-other, live-new, holds-at-new, holds-elsewhere, apart-at-new, apart-elsewhere}
 use Rattle.view.proofs.Due.{due, open-due}
 
 -- the first that passes a test passes it
@@ -74,7 +75,7 @@ module _ (v : View) (a b : ℕ) (g : Good v) (o : Open v a b) (n : New v a b) wh
         yes false y f = f
 
     label-new : (i : ℕ) → (i ≡ a) ⊎ (i ≡ b) → v .live i ≡ true → label labels (first-part v i) ≡ label labels (first-part (joined v a b) (next v))
-    label-new i w l = r .together (next v) (first-part v i) (first-part (joined v a b) (next v)) (in-new i (first-part v i) w (first-held v g i l)) (first-held (joined v a b) (good-joined v a b g o n) (next v) (live-new v a b))
+    label-new i w l = r .within-id (next v) (first-part v i) (first-part (joined v a b) (next v)) (in-new i (first-part v i) w (first-held v g i l)) (first-held (joined v a b) (good-joined v a b g o n) (next v) (live-new v a b))
 
     pub share-a : (w : ℕ) → is-other v a b w ≡ true → share v labels a w ≡ share (joined v a b) labels (next v) w
     share-a w q = ap₂ eqb (label-new a (inl refl) (o .live-a)) (ap (label labels) (sym (first-same w q)))
@@ -86,7 +87,7 @@ module _ (v : View) (a b : ℕ) (g : Good v) (o : Open v a b) (n : New v a b) wh
     share-ab = eq-eqb (label labels (first-part v a)) (label labels (first-part v b)) (label-new a (inl refl) (o .live-a) ∙ sym (label-new b (inr refl) (o .live-b)))
 
     pub not-shared : (w : ℕ) → is-other v a b w ≡ true → (v .apart a w || v .apart b w) ≡ true → share (joined v a b) labels (next v) w ≡ false
-    not-shared w q e = ne-eqb _ _ (r .separate (next v) w (first-part (joined v a b) (next v)) (first-part (joined v a b) w) (apart-new w q ∙ e) (first-held (joined v a b) (good-joined v a b g o n) (next v) (live-new v a b)) (first-held (joined v a b) (good-joined v a b g o n) w (live-other v a b w q)))
+    not-shared w q e = ne-eqb _ _ (r .across-apart (next v) w (first-part (joined v a b) (next v)) (first-part (joined v a b) w) (apart-new w q ∙ e) (first-held (joined v a b) (good-joined v a b g o n) (next v) (live-new v a b)) (first-held (joined v a b) (good-joined v a b g o n) w (live-other v a b w q)))
 
   module _ {A : Type 0} (k : Kind A) (laws : Laws k) (cells : List A) (room : Roomy v cells) where
     abbrev new-cell : ℕ → ℕ → Option A

@@ -6,32 +6,35 @@ use mathlib.Core.Logic.{_⊎_, inl, inr}
 use Prim.Native.Nat.{ℕ, _+_, _*_, _≤_, _<_}
 use native.Mathlib.Omega.{arith}
 use native.Mathlib.Nat.{add-mul, mul-le-mul-right}
-use lib.Dec.{ltb}
+use lib.Dec.{eqb, ltb}
 use lib.ListN.{length}
 use Rattle.std.proofs.shelf.Elements.{all-weaker}
-use Rattle.std.proofs.shelf.Tests.{cond-true, cond-false, cases-bool, cases-eq, and-parts, and-from, ltb-true}
+use Rattle.std.proofs.shelf.Tests.{cond-true, cond-false, cases-bool, cases-eq, and-parts, and-from, ltb-true, lt-ltb, eq-eqb}
 use Rattle.amount.specs.Kind.{Kind, Laws, span-limit}
 use Rattle.amount.specs.Totals.{total, spans}
 use Rattle.amount.proofs.Totals.{span-total, spans-map-le}
 use Rattle.amount.proofs.Signs.{span-positive-part}
-use Rattle.job.specs.Job.{Job, max-span, Sound}
+use Rattle.job.specs.Grouping.{Respects}
+use Rattle.job.specs.Job.{Job, marked, max-span, Sound}
 use Rattle.job.specs.Cost.{pairs, separating-term, joining-term, cost}
 use Rattle.job.proofs.Exact.{narrow-at}
 use Rattle.view.specs.View.{View, width, is-open, Roomy, amount-in}
 use Rattle.view.specs.Steps.{start, others, loaded-cells, load-booked, joined, joined-cells, join-booked, separated, separation-booked}
 use Rattle.view.specs.Reached.{Agree, Reached, by-load, by-join, by-separation, by-agreement}
 use Rattle.view.specs.Remaining.{Respects-board, share, remaining}
-use Rattle.view.specs.Law.{pair-count, Booked-and-remaining, Reached-keeps}
+use Rattle.view.specs.Law.{pair-count, most-spans, Booked-and-remaining, Reached-keeps}
 use Rattle.view.proofs.Like.{vals, spans-like}
 use Rattle.view.proofs.Split.{split-before}
-use Rattle.view.proofs.Good.{Good, Open, open-is, New, new-id, good-joined, good-separated}
+use Rattle.view.specs.Good.{Good}
+use Rattle.view.proofs.Good.{Open, open-is, New, new-id, good-joined, good-separated}
 use Rattle.view.proofs.Start.{good-start, amount-loaded, pairs-rise}
-use Rattle.view.proofs.Due.{live-amount, live-none, live-swap, open-due, due-under, spans-map-under, map-same, map-alike, remaining-due}
+use Rattle.view.specs.View.{live-amount}
+use Rattle.view.proofs.Due.{live-none, live-swap, open-due, due-under, spans-map-under, map-same, map-alike, remaining-due}
 use Rattle.view.proofs.Joining.{symmetric-joined}
 use Rattle.view.proofs.JoinLaw.{narrower, booked-under, remaining-joined}
 use Rattle.view.proofs.SeparationLaw.{remaining-separated}
 use Rattle.view.proofs.LoadLaw.{spans-near, cost-start}
-use Rattle.view.proofs.Count.{length-pairs, few-pairs, opens, opens-start, fewer-joined, fewer-separated}
+use Rattle.view.proofs.Count.{length-pairs, few-pairs, opens, opens-is, opens-start, fewer-joined, fewer-separated}
 use Rattle.view.proofs.Respect.{unjoined, unseparated, either-step}
 
 module _ {A : Type 0} (k : Kind A) (laws : Laws k) where
@@ -40,7 +43,7 @@ module _ {A : Type 0} (k : Kind A) (laws : Laws k) where
 
   -- the most that the amounts of a job's pairs span together
   abbrev most : Job A → ℕ
-  most job = pair-count (job .parts) * max-span
+  most = most-spans
 
   record Inside (job : Job A) (v : View) (cells : List A) (booked : A) : Type 0 where
     pub good : Good v
@@ -50,6 +53,7 @@ module _ {A : Type 0} (k : Kind A) (laws : Laws k) where
     pub narrow : all-live v cells ≤ most job
     -- each open pair may still book as much as all
     pub booked-narrow : k .span booked + opens v * most job ≤ pair-count (job .parts) * most job
+    pub marks : (labels : List ℕ) → Respects-board v labels → Respects job labels
     pub law : (labels : List ℕ) → Respects-board v labels → cost k job labels ≡ k .sum booked (remaining k v cells labels)
 
   record Small (job : Job A) : Type 0 where
@@ -85,6 +89,7 @@ module _ {A : Type 0} (k : Kind A) (laws : Laws k) where
         let each : spans k (map (λ p. live-amount k (start job) (loaded-cells k job cells) (p .0) (p .1)) (pairs (job .parts))) ≤ length (pairs (job .parts)) * max-span = spans-map-le k laws (λ p. live-amount k (start job) (loaded-cells k job cells) (p .0) (p .1)) max-span (pairs (job .parts)) (λ p. one (p .0) (p .1)) in
         omega (arith, spans-near k laws job s (live-amount k (start job) (loaded-cells k job cells)) (live-none k laws (start job) (loaded-cells k job cells)), length-pairs (job .parts));
     booked-narrow = omega (arith, laws .span-zero, mul-le-mul-right (most job) (opens-start k laws job s));
+    marks = λ labels r i j p q m. r .across-apart i j i j (and-from (ltb i (job .parts) && ltb j (job .parts)) (marked job i j) (and-from (ltb i (job .parts)) (ltb j (job .parts)) (lt-ltb i (job .parts) p) (lt-ltb j (job .parts) q)) m) (and-from (ltb i (job .parts)) (eqb i i) (lt-ltb i (job .parts) p) (eq-eqb i i refl)) (and-from (ltb j (job .parts)) (eqb j j) (lt-ltb j (job .parts) q) (eq-eqb j j refl));
     law = λ labels _. cost-start k laws job s cells room labels;
   }
     where
@@ -118,6 +123,7 @@ module _ {A : Type 0} (k : Kind A) (laws : Laws k) where
         symmetric = symmetric-joined v a b g o n k laws cells room (h .symmetric);
         narrow = omega arith;
         booked-narrow = omega arith;
+        marks = λ labels r. h .marks labels (unjoined v a b g o n labels r);
         law = λ labels r. stepped (cost k job labels) booked (join-booked k v cells a b) (remaining k v cells labels) (remaining k (joined v a b) (joined-cells k v cells a b) labels) (omega (arith, remaining-span (joined v a b) (joined-cells k v cells a b) labels (omega arith))) (h .law labels (unjoined v a b g o n labels r)) (remaining-joined k laws v cells a b g o n room (h .symmetric) labels r (omega arith));
       }
 
@@ -143,6 +149,7 @@ module _ {A : Type 0} (k : Kind A) (laws : Laws k) where
         symmetric = h .symmetric;
         narrow = hn;
         booked-narrow = omega arith;
+        marks = λ labels r. h .marks labels (unseparated v a b labels r);
         law = λ labels r. stepped (cost k job labels) booked (separation-booked k v cells a b) (remaining k v cells labels) (remaining k (separated v a b) cells labels) (omega (arith, remaining-span (separated v a b) cells labels (omega arith))) (h .law labels (unseparated v a b labels r)) (remaining-separated v a b g o k laws cells (h .symmetric) labels r (omega arith));
       }
 
@@ -167,6 +174,7 @@ module _ {A : Type 0} (k : Kind A) (laws : Laws k) where
     symmetric = λ i j p q. turned i j p q (cases-eq i j);
     narrow = subst (λ l. spans k l ≤ most job) (map-same _ _ (pairs (width v)) (all-weaker (λ p. (p .0 < p .1) × (p .1 < width v)) (λ p. live-amount k v cells (p .0) (p .1) ≡ live-amount k v others (p .0) (p .1)) (λ p m. live-same (p .0) (p .1) (λ e. let no : ⊥ = omega arith in no)) (pairs (width v)) (pairs-rise (width v)))) (h .narrow);
     booked-narrow = h .booked-narrow;
+    marks = h .marks;
     law = λ labels r. h .law labels r ∙ ap (k .sum booked) (remaining-agrees v cells others labels agree);
   }
     where
@@ -195,10 +203,13 @@ module _ {A : Type 0} (k : Kind A) (laws : Laws k) where
       let h = inside job v cells booked r in
       let t = small job (h .sound) in
       record {
+        well-formed = h .good;
+        same-parts = h .parts-same;
         symmetric = h .symmetric;
-        held = λ p l. let m = h .good .held p (omega (arith, h .parts-same)) in (m .0, h .good .holds-live (m .0) p (m .1), m .1);
-        held-once = h .good .held-once;
         live-spans = h .narrow;
+        booked-bound = subst (λ m. k .span booked + m * most job ≤ pair-count (job .parts) * most job) (sym (opens-is v)) (h .booked-narrow);
         booked-span = omega (arith, h .booked-narrow, t .all);
+        settles = λ a b e. let o = open-is v a b e in (omega (arith, opens-is v, opens-is (joined v a b), fewer-joined v a b (h .good) o (new-id v a b (h .good) o)), omega (arith, opens-is v, opens-is (separated v a b), fewer-separated v a b (h .good) o));
+        respects-marks = h .marks;
         branches = λ a b e labels _ s. let o = open-is v a b e in either-step v a b (h .good) o (new-id v a b (h .good) o) labels s;
       }

@@ -17,8 +17,10 @@ use Rattle.view.specs.Steps.{is-other, others, separated, separation-booked}
 use Rattle.view.specs.Remaining.{Respects-board, first-part, share, remaining}
 use Rattle.view.proofs.Like.{vals, vals-same, spans-like, total-like}
 use Rattle.view.proofs.Split.{split-before, others-pass}
-use Rattle.view.proofs.Good.{Good, Open, good-separated, other-facts}
-use Rattle.view.proofs.Due.{due, open-due, live-amount, due-none, due-swap, due-under, spans-map-under, map-same, remaining-due}
+use Rattle.view.specs.Good.{Good}
+use Rattle.view.proofs.Good.{Open, good-separated, other-facts}
+use Rattle.view.specs.View.{live-amount}
+use Rattle.view.proofs.Due.{due, open-due, due-none, due-swap, due-under, spans-map-under, map-same, remaining-due}
 use Rattle.view.proofs.Joining.{first-held, open-at}
 
 module _ (v : View) (a b : ℕ) (g : Good v) (o : Open v a b) where
@@ -65,7 +67,7 @@ module _ (v : View) (a b : ℕ) (g : Good v) (o : Open v a b) where
     after-pair = cond-false (is-open (separated v a b) a b) _ (k .zero) (open-at (separated v a b) a b (o .live-a) (o .live-b) (o .distinct) ∙ ap not apart-pair)
 
     before-pair : D a b ≡ separation-booked k v cells a b
-    before-pair = ap₂ (λ t u. cond t (due k u (amount-in k v cells a b)) (k .zero)) (open-at v a b (o .live-a) (o .live-b) (o .distinct) ∙ ap not (o .not-apart)) (ne-eqb _ _ (r .separate a b (first-part v a) (first-part v b) apart-pair (first-held v g a (o .live-a)) (first-held v g b (o .live-b))))
+    before-pair = ap₂ (λ t u. cond t (due k u (amount-in k v cells a b)) (k .zero)) (open-at v a b (o .live-a) (o .live-b) (o .distinct) ∙ ap not (o .not-apart)) (ne-eqb _ _ (r .across-apart a b (first-part v a) (first-part v b) apart-pair (first-held v g a (o .live-a)) (first-held v g b (o .live-b))))
 
     row-a : map (E a) rest ≡ map (D a) rest
     row-a = map-same (E a) (D a) rest (all-weaker (λ i. is-other v a b i ≡ true) (λ w. E a w ≡ D a w) (λ w q. due-same a w (λ _ e. other-facts v a b w q .2 e) (λ e _. o .distinct e)) rest (others-pass v a b))

@@ -22,7 +22,7 @@ use Rattle.view.specs.View.{width, Roomy, amount-in}
 use Rattle.view.specs.Steps.{start, loaded-cells}
 use Rattle.view.proofs.Cells.{amount-rewritten}
 use Rattle.view.proofs.Choose.{kept-yes, kept-no, counted}
-use Rattle.view.proofs.Good.{Good}
+use Rattle.view.specs.Good.{Good}
 
 few-below : (n s m : ℕ) → length (kept-by (λ i. ltb i n) (counting s m)) ≤ n - s
 few-below n s zero = omega arith

@@ -1,4 +1,5 @@
 pub mod View
+pub mod Good
 pub mod Steps
 pub mod Reached
 pub mod Remaining

@@ -15,7 +15,7 @@ use Rattle.amount.specs.Totals.{total}
 use Rattle.job.specs.Job.{Job, amount-at, marked}
 use Rattle.view.specs.View.{View, width, next, is-open, amount-in}
 
--- the cells with those of some pairs written anew, and no other
+-- the cells with those of some pairs written anew and no other; there are as many as before
 abbrev pub rewritten : {A : Type 0} → Kind A → View → List A → (ℕ → ℕ → Option A) → List A
 rewritten k v cells new = map (λ c. valueOr (new (c / width v) (c % width v)) (getD cells c (k .zero))) (counting 0 (length cells))
 
@@ -28,10 +28,11 @@ start job = record {
   apart = λ i j. (ltb i (job .parts) && ltb j (job .parts)) && marked job i j;
 }
 
+-- the cells of the parts hold the amounts of the job
 abbrev pub loaded-cells : {A : Type 0} → Kind A → Job A → List A → List A
 loaded-cells k job cells = rewritten k (start job) cells (λ i j. cond (ltb i (job .parts) && ltb j (job .parts)) (Some (amount-at k job i j)) None)
 
--- what loading books
+-- what loading books: zero today
 abbrev pub load-booked : {A : Type 0} → Kind A → Job A → A
 load-booked k job = k .zero
 
@@ -39,23 +40,31 @@ load-booked k job = k .zero
 abbrev pub is-other : View → ℕ → ℕ → ℕ → Bool
 is-other v a b i = v .live i && (not (eqb i a) && not (eqb i b))
 
--- the next id takes the place of a and b: it has their parts, and is apart from what either was apart from
+-- the new id is apart from what either of the two was apart from
+abbrev pub joined-apart : View → ℕ → ℕ → ℕ → Bool
+joined-apart v a b w = v .apart a w || v .apart b w
+
+-- the next id takes the place of a and b, with the parts of both
 abbrev pub joined : View → ℕ → ℕ → View
 joined v a b = record {
   parts = v .parts;
   live = λ i. is-other v a b i || eqb i (next v);
   holds = λ i p. cond (eqb i (next v)) (v .holds a p || v .holds b p) (is-other v a b i && v .holds i p);
   apart = λ i j.
-      cond (eqb i (next v)) (is-other v a b j && (v .apart a j || v .apart b j))
-      (cond (eqb j (next v)) (is-other v a b i && (v .apart a i || v .apart b i))
+      cond (eqb i (next v)) (is-other v a b j && joined-apart v a b j)
+      (cond (eqb j (next v)) (is-other v a b i && joined-apart v a b i)
       ((is-other v a b i && is-other v a b j) && v .apart i j));
 }
 
--- the amount of the next id to each other one is the sum of theirs
+-- the amount of the new id to another one: the sum of theirs, apart or not
+abbrev pub joined-amount : {A : Type 0} → Kind A → View → List A → ℕ → ℕ → ℕ → A
+joined-amount k v cells a b w = k .sum (amount-in k v cells a w) (amount-in k v cells b w)
+
+-- it is written in both cells of each pair
 abbrev pub joined-cells : {A : Type 0} → Kind A → View → List A → ℕ → ℕ → List A
 joined-cells k v cells a b = rewritten k v cells (λ i j.
-    cond (eqb i (next v) && is-other v a b j) (Some (k .sum (amount-in k v cells a j) (amount-in k v cells b j)))
-    (cond (eqb j (next v) && is-other v a b i) (Some (k .sum (amount-in k v cells a i) (amount-in k v cells b i)))
+    cond (eqb i (next v) && is-other v a b j) (Some (joined-amount k v cells a b j))
+    (cond (eqb j (next v) && is-other v a b i) (Some (joined-amount k v cells a b i))
     None))
 
 -- what a join books for its own pair: the absolute amount if negative
@@ -69,12 +78,15 @@ join-other k v cells a b w =
     (cond (is-open v b w) (overlap k (amount-in k v cells a w) (amount-in k v cells b w)) (positive-part k (amount-in k v cells a w)))
     (cond (is-open v b w) (positive-part k (amount-in k v cells b w)) (k .zero))
 
+-- the other live ids
 abbrev pub others : View → ℕ → ℕ → List ℕ
 others v a b = kept-by (is-other v a b) (counting 0 (width v))
 
+-- what it books for all others
 abbrev pub join-others : {A : Type 0} → Kind A → View → List A → ℕ → ℕ → A
 join-others k v cells a b = total k (map (join-other k v cells a b) (others v a b))
 
+-- both together
 abbrev pub join-booked : {A : Type 0} → Kind A → View → List A → ℕ → ℕ → A
 join-booked k v cells a b = k .sum (join-own k v cells a b) (join-others k v cells a b)
 
