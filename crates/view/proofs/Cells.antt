@@ -10,7 +10,8 @@ use Rattle.std.proofs.shelf.Bits.{mul-add-lt, div-mul-add, mod-mul-add}
 use Rattle.std.proofs.shelf.Counted.{getD-map-counting, length-map-counting}
 use Rattle.amount.specs.Kind.{Kind}
 use Rattle.view.specs.View.{View, width, Roomy, amount-in}
-use Rattle.view.specs.Steps.{rewritten}
+use Rattle.view.specs.Steps.{rewritten, joined-cells, loaded-cells}
+use Rattle.job.specs.Job.{Job}
 
 module _ {A : Type 0} (k : Kind A) (v : View) (cells : List A) (new : ℕ → ℕ → Option A) where
   pub amount-rewritten : Roomy v cells → (i j : ℕ) → i < width v → j < width v → amount-in k v (rewritten k v cells new) i j ≡ valueOr (new i j) (amount-in k v cells i j)
@@ -19,5 +20,9 @@ module _ {A : Type 0} (k : Kind A) (v : View) (cells : List A) (new : ℕ → �
       let read = getD-map-counting (λ c. valueOr (new (c / width v) (c % width v)) (getD cells c (k .zero))) 0 (length cells) (i * width v + j) (i * width v + j) (k .zero) (omega arith) (omega arith) in
       read ∙ ap₂ (λ x y. valueOr (new x y) (getD cells (i * width v + j) (k .zero))) (div-mul-add i (width v) j hj) (mod-mul-add i (width v) j hj)
 
-  pub length-rewritten : length (rewritten k v cells new) ≡ length cells
-  length-rewritten = length-map-counting _ 0 (length cells)
+-- a step writes no cell beyond those that are there
+pub length-joined : {A : Type 0} (k : Kind A) (v : View) (cells : List A) (a b : ℕ) → length (joined-cells k v cells a b) ≡ length cells
+length-joined k v cells a b = length-map-counting _ 0 (length cells)
+
+pub length-loaded : {A : Type 0} (k : Kind A) (job : Job A) (cells : List A) → length (loaded-cells k job cells) ≡ length cells
+length-loaded k job cells = length-map-counting _ 0 (length cells)

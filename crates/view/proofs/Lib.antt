@@ -12,3 +12,4 @@ pub mod LoadLaw
 pub mod Count
 pub mod Respect
 pub mod Reaching
+pub mod Playing

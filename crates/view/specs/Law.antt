@@ -8,18 +8,24 @@ use lib.ListN.{length}
 use Rattle.std.specs.shelf.Lists.{kept-by}
 use Rattle.amount.specs.Kind.{Kind}
 use Rattle.amount.specs.Totals.{spans}
-use Rattle.job.specs.Job.{Job, max-span}
+use Rattle.job.specs.Job.{Job, max-span, Sound}
 use Rattle.job.specs.Grouping.{Grouping, Respects}
 use Rattle.job.specs.Cost.{pairs, cost}
 use Rattle.view.specs.Good.{Good}
-use Rattle.view.specs.View.{View, width, is-open, amount-in, live-amount}
-use Rattle.view.specs.Steps.{joined, separated}
+use Rattle.view.specs.View.{View, width, is-open, amount-in, live-amount, Roomy}
+use Rattle.view.specs.Steps.{start, joined, separated}
+use Rattle.view.specs.Play.{loaded, played, All-free}
+use Rattle.view.specs.declared.Step.{Step}
 use Rattle.view.specs.Reached.{Reached}
 use Rattle.view.specs.Remaining.{Respects-board, remaining}
 
 -- each grouping that respects a reached board costs what was booked plus what remains
 abbrev pub Booked-and-remaining : {A : Type 0} → Kind A → Type 0
 Booked-and-remaining {A} k = (job : Job A) (v : View) (cells : List A) (booked : A) → Reached k job v cells booked → (labels : List ℕ) → Grouping (job .parts) labels → Respects-board v labels → cost k job labels ≡ k .sum booked (remaining k v cells labels)
+
+-- the same after any list of joins and separations of open pairs on the loaded board
+abbrev pub Cost-after-steps : {A : Type 0} → Kind A → Type 0
+Cost-after-steps {A} k = (job : Job A) (cells : List A) → Sound k job → Roomy (start job) cells → (steps : List Step) → All-free k (loaded k job cells) steps → (labels : List ℕ) → Grouping (job .parts) labels → Respects-board (played k (loaded k job cells) steps .view) labels → cost k job labels ≡ k .sum (played k (loaded k job cells) steps .booked) (remaining k (played k (loaded k job cells) steps .view) (played k (loaded k job cells) steps .cells) labels)
 
 -- the number of pairs of parts
 abbrev pub pair-count : ℕ → ℕ
