@@ -46,7 +46,7 @@ module _ {A : Type 0} (k : Kind A) (laws : Laws k) (job : Job A) where
 
     pub exact-cost : job .parts ≤ max-parts → Narrow k (job .square) → Exact-cost k job labels
     exact-cost few narrow =
-        let long : length (pairs (job .parts)) ≤ job .parts * 32 = length-pairs (job .parts) 32 few in
+        let long : length (pairs (job .parts)) ≤ job .parts * max-parts = length-pairs (job .parts) max-parts few in
         let s : spans k (map (separating-charge k job labels) (pairs (job .parts))) ≤ length (pairs (job .parts)) * max-span = spans-map-le k laws (separating-charge k job labels) max-span (pairs (job .parts)) (separating-span narrow) in
         let t : spans k (map (joining-charge k job labels) (pairs (job .parts))) ≤ length (pairs (job .parts)) * max-span = spans-map-le k laws (joining-charge k job labels) max-span (pairs (job .parts)) (joining-span narrow) in
         omega arith

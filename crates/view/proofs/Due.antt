@@ -18,7 +18,7 @@ use Rattle.job.specs.Cost.{pairs, separating-term, joining-term}
 use Rattle.view.specs.View.{live-amount, View, width, is-open, amount-in}
 use Rattle.view.specs.Remaining.{share, remaining, first-part}
 use Rattle.view.specs.Good.{Good}
-use Rattle.view.proofs.Good.{open-is}
+use Rattle.view.proofs.Good.{open-is, and-comm}
 
 -- a pair's term: its negative part inside a group, its positive part between groups
 abbrev pub due : {A : Type 0} → Kind A → Bool → A → A
@@ -41,12 +41,6 @@ map-same f g (i ∷ is) h = ap₂ (λ x l. x ∷ l) (h .0) (map-same f g is (h .
 pub map-alike : {I X : Type 0} (f g : I → X) (is : List I) → ((i : I) → f i ≡ g i) → map f is ≡ map g is
 map-alike f g [] h = refl
 map-alike f g (i ∷ is) h = ap₂ (λ x l. x ∷ l) (h i) (map-alike f g is h)
-
-and-comm : (x y : Bool) → (x && y) ≡ (y && x)
-and-comm true true = refl
-and-comm true false = refl
-and-comm false true = refl
-and-comm false false = refl
 
 pub open-swap : (v : View) → Good v → (i j : ℕ) → is-open v i j ≡ is-open v j i
 open-swap v g i j = ap (λ t. t && (not (eqb i j) && not (v .apart i j))) (and-comm (v .live i) (v .live j)) ∙ ap (λ t. (v .live j && v .live i) && (not t && not (v .apart i j))) (eqb-swap i j) ∙ ap (λ t. (v .live j && v .live i) && (not (eqb j i) && not t)) (g .apart-symmetric i j)

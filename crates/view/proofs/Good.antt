@@ -10,7 +10,7 @@ use lib.ListN.{length}
 use Rattle.std.specs.Iters.{counting}
 use Rattle.std.specs.shelf.Lists.{kept-by}
 use Rattle.std.proofs.shelf.Counted.{length-counting}
-use Rattle.std.proofs.shelf.Tests.{cases-eq, eq-eqb, ne-eqb, eqb-true, and-parts, and-from, and-left, and-right, or-cases, both-ways, not-true, cond-true, cond-false}
+use Rattle.std.proofs.shelf.Tests.{cases-eq, eq-eqb, ne-eqb, eqb-true, and-parts, and-from, and-left, and-right, or-cases, both-ways, not-true, cond-true, cond-false, or-left, or-right}
 use Rattle.view.specs.Good.{Good}
 use Rattle.view.specs.View.{View, width, ids, next, is-open}
 use Rattle.view.specs.Steps.{is-other, others, joined, separated}
@@ -86,11 +86,7 @@ module _ (v : View) (a b : ℕ) where
   live-other i e = ap (λ t. t || eqb i (next v)) e
 
   pub live-new : joined v a b .live (next v) ≡ true
-  live-new = go (is-other v a b (next v)) (eqb (next v) (next v)) (eq-eqb (next v) (next v) refl)
-    where
-      go : (x y : Bool) → y ≡ true → (x || y) ≡ true
-      go true y e = refl
-      go false y e = e
+  live-new = or-right (is-other v a b (next v)) (eqb (next v) (next v)) (eq-eqb (next v) (next v) refl)
 
   pub holds-at-new : (p : ℕ) → joined v a b .holds (next v) p ≡ (v .holds a p || v .holds b p)
   holds-at-new p = cond-true (eqb (next v) (next v)) _ _ (eq-eqb (next v) (next v) refl)
@@ -112,6 +108,10 @@ and-swap true true z = refl
 and-swap true false z = refl
 and-swap false true z = refl
 and-swap false false z = refl
+
+-- no other id is the new one
+pub not-new : (v : View) (a b : ℕ) → New v a b → (i : ℕ) → is-other v a b i ≡ true → i ≡ next v → ⊥
+not-new v a b n i q e = both-ways (is-other v a b (next v)) (n .no-other) (ap (is-other v a b) (sym e) ∙ q)
 
 pub good-joined : (v : View) (a b : ℕ) → Good v → Open v a b → New v a b → Good (joined v a b)
 good-joined v a b g o n = record {
@@ -135,9 +135,6 @@ good-joined v a b g o n = record {
         go : (is-other v a b i ≡ true) ⊎ (i ≡ next v) → P i
         go (inl q) = other q
         go (inr e) = subst P (sym e) new
-
-    not-new : (i : ℕ) → is-other v a b i ≡ true → i ≡ next v → ⊥
-    not-new i q e = both-ways (is-other v a b (next v)) (n .no-other) (ap (is-other v a b) (sym e) ∙ q)
 
     both-apart : (i j : ℕ) → (i ≡ next v) ⊎ (i ≡ next v → ⊥) → (j ≡ next v) ⊎ (j ≡ next v → ⊥) → joined v a b .apart i j ≡ joined v a b .apart j i
     both-apart i j (inl p) (inl q) = ap (λ x. joined v a b .apart x j) (p ∙ sym q) ∙ ap (joined v a b .apart j) (q ∙ sym p)
@@ -166,23 +163,16 @@ good-joined v a b g o n = record {
     held-part i p e (inl q) = of-either p (or-cases (v .holds a p) (v .holds b p) (sym (holds-at-new v a b p) ∙ ap (λ x. joined v a b .holds x p) (sym q) ∙ e))
     held-part i p e (inr d) = g .holds-part i p (and-parts (is-other v a b i) (v .holds i p) (sym (holds-elsewhere v a b i p d) ∙ e) .1)
 
-    yes-left : (x y : Bool) → x ≡ true → (x || y) ≡ true
-    yes-left x y e = ap (λ t. t || y) e
-
-    yes-right : (x y : Bool) → y ≡ true → (x || y) ≡ true
-    yes-right true y e = refl
-    yes-right false y e = e
-
     kept-part : (i p : ℕ) → is-other v a b i ≡ true → v .holds i p ≡ true → joined v a b .holds i p ≡ true
-    kept-part i p q h = holds-elsewhere v a b i p (not-new i q) ∙ and-from (is-other v a b i) (v .holds i p) q h
+    kept-part i p q h = holds-elsewhere v a b i p (not-new v a b n i q) ∙ and-from (is-other v a b i) (v .holds i p) q h
 
     part-of : (i : ℕ) → (is-other v a b i ≡ true) ⊎ (i ≡ next v) → (p : ℕ) × (joined v a b .holds i p ≡ true)
     part-of i (inl q) = let s = g .some-part i (other-facts v a b i q .0) in (s .0, kept-part i (s .0) q (s .1))
-    part-of i (inr e) = let s = g .some-part a (o .live-a) in (s .0, ap (λ x. joined v a b .holds x (s .0)) e ∙ holds-at-new v a b (s .0) ∙ yes-left (v .holds a (s .0)) (v .holds b (s .0)) (s .1))
+    part-of i (inr e) = let s = g .some-part a (o .live-a) in (s .0, ap (λ x. joined v a b .holds x (s .0)) e ∙ holds-at-new v a b (s .0) ∙ or-left (v .holds a (s .0)) (v .holds b (s .0)) (s .1))
 
     holder : (p : ℕ) (h : (i : ℕ) × (v .holds i p ≡ true)) → (h .0 ≡ a) ⊎ (h .0 ≡ a → ⊥) → (h .0 ≡ b) ⊎ (h .0 ≡ b → ⊥) → (i : ℕ) × (joined v a b .holds i p ≡ true)
-    holder p h (inl e) y = (next v, holds-at-new v a b p ∙ yes-left (v .holds a p) (v .holds b p) (ap (λ x. v .holds x p) (sym e) ∙ h .1))
-    holder p h (inr d) (inl e) = (next v, holds-at-new v a b p ∙ yes-right (v .holds a p) (v .holds b p) (ap (λ x. v .holds x p) (sym e) ∙ h .1))
+    holder p h (inl e) y = (next v, holds-at-new v a b p ∙ or-left (v .holds a p) (v .holds b p) (ap (λ x. v .holds x p) (sym e) ∙ h .1))
+    holder p h (inr d) (inl e) = (next v, holds-at-new v a b p ∙ or-right (v .holds a p) (v .holds b p) (ap (λ x. v .holds x p) (sym e) ∙ h .1))
     holder p h (inr d) (inr e) = (h .0, kept-part (h .0) p (other-from v a b (h .0) (g .holds-live (h .0) p (h .1)) d e) (h .1))
 
     clash : (p j : ℕ) → (v .holds a p ≡ true) ⊎ (v .holds b p ≡ true) → is-other v a b j ≡ true → v .holds j p ≡ true → ⊥
@@ -208,7 +198,7 @@ or-swap false true false = refl
 or-swap false false true = refl
 or-swap false false false = refl
 
-and-comm : (x y : Bool) → (x && y) ≡ (y && x)
+pub and-comm : (x y : Bool) → (x && y) ≡ (y && x)
 and-comm true true = refl
 and-comm true false = refl
 and-comm false true = refl

@@ -11,7 +11,7 @@ use Rattle.std.specs.Options.{valueOr}
 use Rattle.std.specs.shelf.Lists.{kept-by}
 use Rattle.std.specs.declared.option.Option.{Option}
 use Rattle.std.specs.declared.option.Option.the-variants.{None, Some}
-use Rattle.std.proofs.shelf.Tests.{cond-true, cond-false, cases-bool, eq-eqb, ne-eqb, and-left, and-from, both-ways}
+use Rattle.std.proofs.shelf.Tests.{cond-true, cond-false, cases-bool, eq-eqb, ne-eqb, and-left, and-from, both-ways, or-right}
 use Rattle.amount.specs.Kind.{Kind, Laws, span-limit}
 use Rattle.amount.specs.Signs.{positive-part, negative-part, overlap}
 use Rattle.amount.proofs.Totals.{neutral-right}
@@ -23,7 +23,7 @@ use Rattle.view.specs.Remaining.{Respects-board, first-of, first-part, share}
 use Rattle.view.proofs.Cells.{amount-rewritten}
 use Rattle.view.proofs.Choose.{kept-yes, kept-no, kept-alike}
 use Rattle.view.specs.Good.{Good}
-use Rattle.view.proofs.Good.{Open, New, good-joined, other-facts, live-cases, live-other, live-new, holds-at-new, holds-elsewhere, apart-at-new, apart-elsewhere}
+use Rattle.view.proofs.Good.{Open, New, good-joined, other-facts, live-cases, live-other, live-new, holds-at-new, holds-elsewhere, apart-at-new, apart-elsewhere, not-new}
 use Rattle.view.proofs.Due.{due, open-due}
 
 -- the first that passes a test passes it
@@ -42,14 +42,11 @@ pub open-at : (v : View) (i j : ℕ) → v .live i ≡ true → v .live j ≡ tr
 open-at v i j p q d = ap (λ t. t && (not (eqb i j) && not (v .apart i j))) (and-from (v .live i) (v .live j) p q) ∙ ap (λ t. not t && not (v .apart i j)) (ne-eqb i j d)
 
 module _ (v : View) (a b : ℕ) (g : Good v) (o : Open v a b) (n : New v a b) where
-  pub not-new : (i : ℕ) → is-other v a b i ≡ true → i ≡ next v → ⊥
-  not-new i q e = both-ways (is-other v a b (next v)) (n .no-other) (ap (is-other v a b) (sym e) ∙ q)
-
   pub first-same : (w : ℕ) → is-other v a b w ≡ true → first-part (joined v a b) w ≡ first-part v w
-  first-same w q = ap first-of (kept-alike (joined v a b .holds w) (v .holds w) (λ p. holds-elsewhere v a b w p (not-new w q) ∙ ap (λ t. t && v .holds w p) q) (counting 0 (v .parts)))
+  first-same w q = ap first-of (kept-alike (joined v a b .holds w) (v .holds w) (λ p. holds-elsewhere v a b w p (not-new v a b n w q) ∙ ap (λ t. t && v .holds w p) q) (counting 0 (v .parts)))
 
   pub apart-same : (x y : ℕ) → is-other v a b x ≡ true → is-other v a b y ≡ true → joined v a b .apart x y ≡ v .apart x y
-  apart-same x y p q = apart-elsewhere v a b x y (not-new x p) (not-new y q) ∙ ap (λ t. t && v .apart x y) (and-from (is-other v a b x) (is-other v a b y) p q)
+  apart-same x y p q = apart-elsewhere v a b x y (not-new v a b n x p) (not-new v a b n y q) ∙ ap (λ t. t && v .apart x y) (and-from (is-other v a b x) (is-other v a b y) p q)
 
   pub open-same : (x y : ℕ) → is-other v a b x ≡ true → is-other v a b y ≡ true → is-open (joined v a b) x y ≡ is-open v x y
   open-same x y p q =
@@ -63,16 +60,12 @@ module _ (v : View) (a b : ℕ) (g : Good v) (o : Open v a b) (n : New v a b) wh
   apart-new w q = apart-at-new v a b w ∙ ap (λ t. t && (v .apart a w || v .apart b w)) q
 
   pub open-new : (w : ℕ) → is-other v a b w ≡ true → is-open (joined v a b) (next v) w ≡ not (v .apart a w || v .apart b w)
-  open-new w q = open-at (joined v a b) (next v) w (live-new v a b) (live-other v a b w q) (λ e. not-new w q (sym e)) ∙ ap not (apart-new w q)
+  open-new w q = open-at (joined v a b) (next v) w (live-new v a b) (live-other v a b w q) (λ e. not-new v a b n w q (sym e)) ∙ ap not (apart-new w q)
 
   module _ (labels : List ℕ) (r : Respects-board (joined v a b) labels) where
     in-new : (i p : ℕ) → (i ≡ a) ⊎ (i ≡ b) → v .holds i p ≡ true → joined v a b .holds (next v) p ≡ true
     in-new i p (inl e) h = holds-at-new v a b p ∙ ap (λ t. t || v .holds b p) (ap (λ x. v .holds x p) (sym e) ∙ h)
-    in-new i p (inr e) h = holds-at-new v a b p ∙ yes (v .holds a p) (v .holds b p) (ap (λ x. v .holds x p) (sym e) ∙ h)
-      where
-        yes : (x y : Bool) → y ≡ true → (x || y) ≡ true
-        yes true y f = refl
-        yes false y f = f
+    in-new i p (inr e) h = holds-at-new v a b p ∙ or-right (v .holds a p) (v .holds b p) (ap (λ x. v .holds x p) (sym e) ∙ h)
 
     label-new : (i : ℕ) → (i ≡ a) ⊎ (i ≡ b) → v .live i ≡ true → label labels (first-part v i) ≡ label labels (first-part (joined v a b) (next v))
     label-new i w l = r .within-id (next v) (first-part v i) (first-part (joined v a b) (next v)) (in-new i (first-part v i) w (first-held v g i l)) (first-held (joined v a b) (good-joined v a b g o n) (next v) (live-new v a b))
@@ -102,7 +95,7 @@ module _ (v : View) (a b : ℕ) (g : Good v) (o : Open v a b) (n : New v a b) wh
     pub amount-same : (x y : ℕ) → is-other v a b x ≡ true → is-other v a b y ≡ true → amount-in k (joined v a b) (joined-cells k v cells a b) x y ≡ amount-in k v cells x y
     amount-same x y p q =
         amount-rewritten k v cells new-cell room x y (in-width x p) (in-width y q)
-        ∙ ap (λ t. valueOr t (amount-in k v cells x y)) (cond-false (eqb x (next v) && is-other v a b y) _ _ (and-left (eqb x (next v)) (is-other v a b y) (ne-eqb x (next v) (not-new x p))) ∙ cond-false (eqb y (next v) && is-other v a b x) _ _ (and-left (eqb y (next v)) (is-other v a b x) (ne-eqb y (next v) (not-new y q))))
+        ∙ ap (λ t. valueOr t (amount-in k v cells x y)) (cond-false (eqb x (next v) && is-other v a b y) _ _ (and-left (eqb x (next v)) (is-other v a b y) (ne-eqb x (next v) (not-new v a b n x p))) ∙ cond-false (eqb y (next v) && is-other v a b x) _ _ (and-left (eqb y (next v)) (is-other v a b x) (ne-eqb y (next v) (not-new v a b n y q))))
 
     pub amount-new : (w : ℕ) → is-other v a b w ≡ true → amount-in k (joined v a b) (joined-cells k v cells a b) (next v) w ≡ k .sum (amount-in k v cells a w) (amount-in k v cells b w)
     amount-new w q =
@@ -112,7 +105,7 @@ module _ (v : View) (a b : ℕ) (g : Good v) (o : Open v a b) (n : New v a b) wh
     pub amount-to-new : (w : ℕ) → is-other v a b w ≡ true → amount-in k (joined v a b) (joined-cells k v cells a b) w (next v) ≡ k .sum (amount-in k v cells a w) (amount-in k v cells b w)
     amount-to-new w q =
         amount-rewritten k v cells new-cell room w (next v) (in-width w q) (n .fits)
-        ∙ ap (λ t. valueOr t (amount-in k v cells w (next v))) (cond-false (eqb w (next v) && is-other v a b (next v)) _ _ (and-left (eqb w (next v)) (is-other v a b (next v)) (ne-eqb w (next v) (not-new w q))) ∙ cond-true (eqb (next v) (next v) && is-other v a b w) _ _ (and-from (eqb (next v) (next v)) (is-other v a b w) (eq-eqb (next v) (next v) refl) q))
+        ∙ ap (λ t. valueOr t (amount-in k v cells w (next v))) (cond-false (eqb w (next v) && is-other v a b (next v)) _ _ (and-left (eqb w (next v)) (is-other v a b (next v)) (ne-eqb w (next v) (not-new v a b n w q))) ∙ cond-true (eqb (next v) (next v) && is-other v a b w) _ _ (and-from (eqb (next v) (next v)) (is-other v a b w) (eq-eqb (next v) (next v) refl) q))
 
     pub symmetric-joined : ((i j : ℕ) → v .live i ≡ true → v .live j ≡ true → amount-in k v cells i j ≡ amount-in k v cells j i) → (i j : ℕ) → joined v a b .live i ≡ true → joined v a b .live j ≡ true → amount-in k (joined v a b) (joined-cells k v cells a b) i j ≡ amount-in k (joined v a b) (joined-cells k v cells a b) j i
     symmetric-joined s i j p q = go (live-cases v a b i p) (live-cases v a b j q)

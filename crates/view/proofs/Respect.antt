@@ -1,28 +1,21 @@
 -- Groupings that respect a board before and after a step.
-use mathlib.Core.Path.{_≡_, refl, sym, ap, ap₂, _∙_}
+use mathlib.Core.Path.{_≡_, sym, ap, ap₂, _∙_}
 use mathlib.Core.List.{List}
-use mathlib.Core.Bool.{Bool, true, false, _&&_, _||_}
+use mathlib.Core.Bool.{true, _&&_, _||_}
 use mathlib.Core.Logic.{_⊎_, inl, inr}
 use Prim.Native.Nat.{ℕ}
 use lib.Dec.{eqb}
-use Rattle.std.proofs.shelf.Tests.{cases-eq, eqb-true, and-parts, or-cases, both-ways, and-from}
+use Rattle.std.proofs.shelf.Tests.{cases-eq, eqb-true, and-parts, or-cases, both-ways, and-from, or-left, or-right}
 use Rattle.job.specs.Grouping.{label}
 use Rattle.view.specs.View.{View, next}
 use Rattle.view.specs.Steps.{is-other, joined, separated}
 use Rattle.view.specs.Remaining.{Respects-board, first-part}
 use Rattle.view.specs.Good.{Good}
-use Rattle.view.proofs.Good.{Open, New, other-from, holds-at-new, holds-elsewhere, apart-at-new, apart-to-new, apart-elsewhere}
-use Rattle.view.proofs.Joining.{not-new, apart-new, apart-same, first-held}
-
-yes-left : (x y : Bool) → x ≡ true → (x || y) ≡ true
-yes-left x y e = ap (λ t. t || y) e
-
-yes-right : (x y : Bool) → y ≡ true → (x || y) ≡ true
-yes-right true y e = refl
-yes-right false y e = e
+use Rattle.view.proofs.Good.{Open, New, other-from, holds-at-new, holds-elsewhere, apart-at-new, apart-to-new, apart-elsewhere, not-new}
+use Rattle.view.proofs.Joining.{apart-new, apart-same, first-held}
 
 pub unseparated : (v : View) (a b : ℕ) (labels : List ℕ) → Respects-board (separated v a b) labels → Respects-board v labels
-unseparated v a b labels r = record { within-id = r .within-id; across-apart = λ i j p q e. r .across-apart i j p q (yes-left (v .apart i j) _ e) }
+unseparated v a b labels r = record { within-id = r .within-id; across-apart = λ i j p q e. r .across-apart i j p q (or-left (v .apart i j) _ e) }
 
 -- where an id stands: one of the two, or another
 data Place (v : View) (a b i : ℕ) : Type 0 where
@@ -40,13 +33,13 @@ place v a b i l = go (cases-eq i a) (cases-eq i b)
 
 module _ (v : View) (a b : ℕ) (g : Good v) (o : Open v a b) (n : New v a b) (labels : List ℕ) where
   from-a : (i p : ℕ) → i ≡ a → v .holds i p ≡ true → joined v a b .holds (next v) p ≡ true
-  from-a i p e h = holds-at-new v a b p ∙ yes-left (v .holds a p) (v .holds b p) (ap (λ x. v .holds x p) (sym e) ∙ h)
+  from-a i p e h = holds-at-new v a b p ∙ or-left (v .holds a p) (v .holds b p) (ap (λ x. v .holds x p) (sym e) ∙ h)
 
   from-b : (i p : ℕ) → i ≡ b → v .holds i p ≡ true → joined v a b .holds (next v) p ≡ true
-  from-b i p e h = holds-at-new v a b p ∙ yes-right (v .holds a p) (v .holds b p) (ap (λ x. v .holds x p) (sym e) ∙ h)
+  from-b i p e h = holds-at-new v a b p ∙ or-right (v .holds a p) (v .holds b p) (ap (λ x. v .holds x p) (sym e) ∙ h)
 
   from-other : (i p : ℕ) → is-other v a b i ≡ true → v .holds i p ≡ true → joined v a b .holds i p ≡ true
-  from-other i p q h = holds-elsewhere v a b i p (not-new v a b g o n i q) ∙ and-from (is-other v a b i) (v .holds i p) q h
+  from-other i p q h = holds-elsewhere v a b i p (not-new v a b n i q) ∙ and-from (is-other v a b i) (v .holds i p) q h
 
   pub unjoined : Respects-board (joined v a b) labels → Respects-board v labels
   unjoined r = record {
@@ -67,10 +60,10 @@ module _ (v : View) (a b : ℕ) (g : Good v) (o : Open v a b) (n : New v a b) (l
       differ i j p q h x y (at-a d) (at-b e) s = both-ways (v .apart a b) (o .not-apart) (ap₂ (v .apart) (sym d) (sym e) ∙ h)
       differ i j p q h x y (at-b d) (at-a e) s = both-ways (v .apart a b) (o .not-apart) (g .apart-symmetric a b ∙ ap₂ (v .apart) (sym d) (sym e) ∙ h)
       differ i j p q h x y (at-b d) (at-b e) s = itself i j b d e h
-      differ i j p q h x y (at-a d) (elsewhere w) s = r .across-apart (next v) j p q (apart-new v a b g o n j w ∙ yes-left (v .apart a j) (v .apart b j) (ap (λ m. v .apart m j) (sym d) ∙ h)) (from-a i p d x) (from-other j q w y) s
-      differ i j p q h x y (at-b d) (elsewhere w) s = r .across-apart (next v) j p q (apart-new v a b g o n j w ∙ yes-right (v .apart a j) (v .apart b j) (ap (λ m. v .apart m j) (sym d) ∙ h)) (from-b i p d x) (from-other j q w y) s
-      differ i j p q h x y (elsewhere w) (at-a e) s = r .across-apart (next v) i q p (apart-new v a b g o n i w ∙ yes-left (v .apart a i) (v .apart b i) (g .apart-symmetric a i ∙ ap (v .apart i) (sym e) ∙ h)) (from-a j q e y) (from-other i p w x) (sym s)
-      differ i j p q h x y (elsewhere w) (at-b e) s = r .across-apart (next v) i q p (apart-new v a b g o n i w ∙ yes-right (v .apart a i) (v .apart b i) (g .apart-symmetric b i ∙ ap (v .apart i) (sym e) ∙ h)) (from-b j q e y) (from-other i p w x) (sym s)
+      differ i j p q h x y (at-a d) (elsewhere w) s = r .across-apart (next v) j p q (apart-new v a b g o n j w ∙ or-left (v .apart a j) (v .apart b j) (ap (λ m. v .apart m j) (sym d) ∙ h)) (from-a i p d x) (from-other j q w y) s
+      differ i j p q h x y (at-b d) (elsewhere w) s = r .across-apart (next v) j p q (apart-new v a b g o n j w ∙ or-right (v .apart a j) (v .apart b j) (ap (λ m. v .apart m j) (sym d) ∙ h)) (from-b i p d x) (from-other j q w y) s
+      differ i j p q h x y (elsewhere w) (at-a e) s = r .across-apart (next v) i q p (apart-new v a b g o n i w ∙ or-left (v .apart a i) (v .apart b i) (g .apart-symmetric a i ∙ ap (v .apart i) (sym e) ∙ h)) (from-a j q e y) (from-other i p w x) (sym s)
+      differ i j p q h x y (elsewhere w) (at-b e) s = r .across-apart (next v) i q p (apart-new v a b g o n i w ∙ or-right (v .apart a i) (v .apart b i) (g .apart-symmetric b i ∙ ap (v .apart i) (sym e) ∙ h)) (from-b j q e y) (from-other i p w x) (sym s)
       differ i j p q h x y (elsewhere w) (elsewhere u) s = r .across-apart i j p q (apart-same v a b g o n i j w u ∙ h) (from-other i p w x) (from-other j q u y) s
 
   -- in the joined board: a part of the new id is a part of a or of b

@@ -10,7 +10,7 @@ use lib.ListN.{length}
 use Rattle.std.specs.Iters.{counting}
 use Rattle.std.specs.shelf.Lists.{All, kept-by}
 use Rattle.std.proofs.shelf.Elements.{kept-by-passes}
-use Rattle.std.proofs.shelf.Tests.{cases-eq, eq-eqb, ne-eqb, and-from, not-from-false}
+use Rattle.std.proofs.shelf.Tests.{cases-eq, eq-eqb, ne-eqb, and-from, not-from-false, or-right}
 use Rattle.job.specs.Cost.{pairs}
 use Rattle.view.specs.View.{View, width, ids, next}
 use Rattle.view.specs.Steps.{is-other, others, joined}
@@ -58,13 +58,9 @@ module _ (v : View) (a b : ℕ) where
   -- after the join they are the new one and the others
   pub after : is-other v a b (next v) ≡ false → next v < width v → List·Permᴰ (ids (joined v a b)) (next v ∷ others v a b)
   after n h =
-      let new : joined v a b .live (next v) ≡ true = yes-or (is-other v a b (next v)) (eqb (next v) (next v)) (eq-eqb (next v) (next v) refl) in
+      let new : joined v a b .live (next v) ≡ true = or-right (is-other v a b (next v)) (eqb (next v) (next v)) (eq-eqb (next v) (next v) refl) in
       let one = front (joined v a b .live) (next v) 0 (width v) (omega arith) (omega arith) new in
       subst (λ l. List·Permᴰ (ids (joined v a b)) (next v ∷ l)) (kept-alike (but (joined v a b .live) (next v)) (is-other v a b) (but-new n) (counting 0 (width v))) one
-    where
-      yes-or : (x y : Bool) → y ≡ true → (x || y) ≡ true
-      yes-or true y e = refl
-      yes-or false y e = e
 
   pub others-pass : All (λ i. is-other v a b i ≡ true) (others v a b)
   others-pass = kept-by-passes (is-other v a b) (counting 0 (width v))
