@@ -1,4 +1,6 @@
 // Amounts: what costs are counted in, and what holds of every kind of them.
+#![tactic(auto)]
+
 ghost use Rattle.std.specs.Prelude.{◌≡◌, Some, Decides};
 ghost use Rattle.amount.specs.Kind.{Kind, Laws};
 ghost use Rattle.amount.specs.Signs.{positive, negative, same, absolute, lesser, positive_part, negative_part, opposite_signs, overlap, Merges, Mergeable};

@@ -1,4 +1,6 @@
 // Lower bounds: what every grouping that respects a board costs at least from there on. Whatever keeps the law of the trait may be put in.
+#![tactic(auto)]
+
 ghost use Rattle.std.specs.Prelude.{◌≡◌, List};
 ghost use Rattle.board.specs.State.{view_of};
 ghost use Rattle.bound.specs.Lawful.{Lawful};

@@ -1,4 +1,6 @@
 // The worked cases: prices every grouping of some small jobs, and shows what is refused.
+#![tactic(auto)]
+
 ghost use Rattle.std.specs.Prelude.{◌≡◌, [], ◌∷◌, length};
 ghost use Rattle.std.specs.List.{AllByRecursion as All};
 ghost use Rattle.cases.specs.Cheaper.{cheaper_of};

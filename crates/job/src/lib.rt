@@ -1,4 +1,6 @@
 // Jobs, groupings of their parts, and what a grouping costs.
+#![tactic(auto)]
+
 ghost use Rattle.std.specs.Prelude.{◌≡◌, true, is_ok, Some};
 ghost use Rattle.job.specs.Answers.{sizes_checked, checked, priced, refused_with, FirstBroken, size_rules, job_rules, cost_rules};
 ghost use Rattle.job.specs.Cost.{ExactCost};

@@ -1,4 +1,6 @@
 // Steps on a board: those of the first worked job, played and shown.
+#![tactic(auto)]
+
 use amount::{Amount, Single};
 
 mod steps;

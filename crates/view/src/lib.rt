@@ -1,4 +1,6 @@
 // Boards as views: steps on them, what is booked and what remains, and the law that ties both to the cost.
+#![tactic(auto)]
+
 ghost use Rattle.view.specs.Law.{BookedAndRemaining, CostAfterSteps, ReachedKeeps};
 
 use amount::Amount;
