@@ -4,14 +4,14 @@ use Rattle.job.specs.declared.JobRefusal.TheVariants.{Lopsided, TooWide}
 use Rattle.job.proofs.Told.{check_told}
 use Rattle.job.proofs.check.Goals as goal
 
-pub returns-then-not-is-mirrored : goal.returns-then-not-is-mirrored
-returns-then-not-is-mirrored g c = record {
+pub returns-then-not-is_mirrored : goal.returns-then-not-is_mirrored
+returns-then-not-is_mirrored g c = record {
   value = search rules;
   tells = check_told g.A.Amount.kind g.met.A.Amount.laws (job_of c.args.parts c.args.square.now c.args.marks.now) (Err Lopsided) (search rules);
 }
 
-pub returns-then-not-is-narrow : goal.returns-then-not-is-narrow
-returns-then-not-is-narrow g c = record {
+pub returns-then-not-is_narrow : goal.returns-then-not-is_narrow
+returns-then-not-is_narrow g c = record {
   value = search rules;
   tells = check_told g.A.Amount.kind g.met.A.Amount.laws (job_of c.args.parts c.args.square.now c.args.marks.now) (Err TooWide) (search rules);
 }

@@ -6,22 +6,22 @@ use Rattle.job.proofs.Exact.{exact_cost}
 use Rattle.job.proofs.Told.{price_told}
 use Rattle.job.proofs.cost.Goals as goal
 
-pub returns-in-err-check : goal.returns-in-err-check
-returns-in-err-check g c = record {
+pub returns-in_err-check : goal.returns-in_err-check
+returns-in_err-check g c = record {
   value = search rules;
   tells = price_told g.A.Amount.kind g.met.A.Amount.laws (job_of c.args.parts c.args.square.now c.args.marks.now) c.args.labels.now c.from-residual.result (search rules);
   exact = search rules;
 }
 
-pub returns-then-not-is-grouping : goal.returns-then-not-is-grouping
-returns-then-not-is-grouping g c = record {
+pub returns-then-not-is_grouping : goal.returns-then-not-is_grouping
+returns-then-not-is_grouping g c = record {
   value = search rules;
   tells = price_told g.A.Amount.kind g.met.A.Amount.laws (job_of c.args.parts c.args.square.now c.args.marks.now) c.args.labels.now (Err NotGrouping) (search rules);
   exact = λ e. absurd (false≢true e);
 }
 
-pub returns-then-not-is-respectful : goal.returns-then-not-is-respectful
-returns-then-not-is-respectful g c = record {
+pub returns-then-not-is_respectful : goal.returns-then-not-is_respectful
+returns-then-not-is_respectful g c = record {
   value = search rules;
   tells = price_told g.A.Amount.kind g.met.A.Amount.laws (job_of c.args.parts c.args.square.now c.args.marks.now) c.args.labels.now (Err Marked) (search rules);
   exact = λ e. absurd (false≢true e);
@@ -29,7 +29,7 @@ returns-then-not-is-respectful g c = record {
 
 pub returns : goal.returns
 returns g c =
-    let sound = c.in-ok-check.ensures.tells in
+    let sound = c.in_ok-check.ensures.tells in
     record {
       value = search rules;
       tells = price_told g.A.Amount.kind g.met.A.Amount.laws (job_of c.args.parts c.args.square.now c.args.marks.now) c.args.labels.now (Ok c.sum.result) (search rules);

@@ -14,10 +14,10 @@ returns g c =
     let laws = g.met.A.Amount.laws in
     let job = job_of c.args.parts c.args.square.now c.args.marks.now in
     let cells = c.args.cells.now in
-    let load = c.in-ok-board.ensures in
-    let end = c.play-on-booked in
+    let load = c.in_ok-board.ensures in
+    let end = c.play_on-booked in
     let s = loads k laws job cells load.tells in
-    let from : position c.in-ok-board.board.state c.load.new.cells c.zero.result ≡ loaded k job cells = λ z. record { view = load.board.0 z; cells = load.cells z; booked = c.zero.ensures z } in
+    let from : position c.in_ok-board.board.state c.load.new.cells c.zero.result ≡ loaded k job cells = λ z. record { view = load.board.0 z; cells = load.cells z; booked = c.zero.ensures z } in
     let at : Position g.row.A.Denot = position end.new.board.state end.new.cells end.result.0 in
     let stands : Stands k (loaded k job cells) c.args.steps.now at end.result.1 = subst (λ (start : Position g.row.A.Denot). Stands k start c.args.steps.now at end.result.1) from end.ensures.stands in
     let reached : Reached k job at.view at.cells at.booked = reached_by k job cells s.0 s.1 c.args.steps.now at end.result.1 stands in

@@ -6,14 +6,14 @@ use Rattle.job.proofs.cells.cell.Goals as goal
 place : (n i j m : ℕ) → m ≡ n * n → i < n → j < n → i * n + j < m
 place n i j m e p q = omega (arith, mul-add-lt i n j n p q)
 
-pub overflow-mul-result : goal.overflow-mul-result
-overflow-mul-result g c = omega (arith, place c.args.parts c.args.i c.args.j (length c.args.cells.now) (omega arith) (omega arith) (omega arith))
+pub overflow_mul-result : goal.overflow_mul-result
+overflow_mul-result g c = omega (arith, place c.args.parts c.args.i c.args.j (length c.args.cells.now) (omega arith) (omega arith) (omega arith))
 
-pub overflow-add-result : goal.overflow-add-result
-overflow-add-result g c = omega (arith, place c.args.parts c.args.i c.args.j (length c.args.cells.now) (omega arith) (omega arith) (omega arith))
+pub overflow_add-result : goal.overflow_add-result
+overflow_add-result g c = omega (arith, place c.args.parts c.args.i c.args.j (length c.args.cells.now) (omega arith) (omega arith) (omega arith))
 
-pub offset-bounds-cells-i : goal.offset-bounds-cells-i
-offset-bounds-cells-i g c = omega (arith, place c.args.parts c.args.i c.args.j (length c.args.cells.now) (omega arith) (omega arith) (omega arith))
+pub offset_bounds-cells-i : goal.offset_bounds-cells-i
+offset_bounds-cells-i g c = omega (arith, place c.args.parts c.args.i c.args.j (length c.args.cells.now) (omega arith) (omega arith) (omega arith))
 
 pub bounds-cells-i : goal.bounds-cells-i
 bounds-cells-i g c = place c.args.parts c.args.i c.args.j (length c.args.cells.now) (omega arith) (omega arith) (omega arith)

@@ -9,10 +9,10 @@ use Rattle.job.proofs.groups.is_grouping.Goals as goal
 told : (labels : List ℕ) (r : Bool) → r ≡ is_grouping (length labels) labels → Decides r (Grouping (length labels) labels)
 told labels r e = Decides-at r (is_grouping (length labels) labels) e (grouping_tells (length labels) labels refl)
 
-pub returns-then-not-is-label : goal.returns-then-not-is-label
-returns-then-not-is-label c =
+pub returns-then-not-is_label : goal.returns-then-not-is_label
+returns-then-not-is_label c =
     let labels = c.args.labels.now in
-    let fails : false ≡ is_grouping (length labels) labels = every_fails (is_label labels) (length labels) c.loop-part.part c.loop-part-test.true (sym c.is_label.ensures ∙ c.if-not-is-label.true) in
+    let fails : false ≡ is_grouping (length labels) labels = every_fails (is_label labels) (length labels) c.loop-part.part c.loop-part-test.true (sym c.is_label.ensures ∙ c.if-not-is_label.true) in
     record { value = fails; means = told labels false fails }
 
 pub loop-part-preserved : goal.loop-part-preserved

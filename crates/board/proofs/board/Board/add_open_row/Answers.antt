@@ -7,6 +7,6 @@ pub loop-i-preserved : goal.loop-i-preserved
 loop-i-preserved g c =
     let k = g.A.Amount.kind in
     let v = view_of c.args.self.now.state in
-    let s = row_step k.sum (open_separating_charge k v c.args.cells.now c.args.labels.now) c.args.so-far.separating c.args.j c.loop-i.i in
-    let t = row_step k.sum (open_joining_charge k v c.args.cells.now c.args.labels.now) c.args.so-far.joining c.args.j c.loop-i.i in
+    let s = row_step k.sum (open_separating_charge k v c.args.cells.now c.args.labels.now) c.args.so_far.separating c.args.j c.loop-i.i in
+    let t = row_step k.sum (open_joining_charge k v c.args.cells.now c.args.labels.now) c.args.so_far.joining c.args.j c.loop-i.i in
     (cc, cc)

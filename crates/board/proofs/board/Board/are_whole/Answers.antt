@@ -6,13 +6,13 @@ use Rattle.view.specs.View.{width}
 use Rattle.board.specs.State.{view_of}
 use Rattle.board.proofs.board.Board.are_whole.Goals as goal
 
-pub returns-then-not-is-whole : goal.returns-then-not-is-whole
-returns-then-not-is-whole c =
+pub returns-then-not-is_whole : goal.returns-then-not-is_whole
+returns-then-not-is_whole c =
     let v = view_of c.args.self.now.state in
-    every_fails (is_whole v c.args.labels.now) (width v) c.loop-id.id (omega (arith, c.loop-id-test.true, c.width-id-end.ensures)) (sym c.is_whole.ensures ∙ c.if-not-is-whole.true)
+    every_fails (is_whole v c.args.labels.now) (width v) c.loop-id.id (omega (arith, c.loop-id-test.true, c.width-id-end.ensures)) (sym c.is_whole.ensures ∙ c.if-not-is_whole.true)
 
 pub loop-id-preserved : goal.loop-id-preserved
-loop-id-preserved c = every_more _ c.loop-id.id c.loop-id.invariant (sym c.is_whole.ensures ∙ c.if-not-is-whole.false)
+loop-id-preserved c = every_more _ c.loop-id.id c.loop-id.invariant (sym c.is_whole.ensures ∙ c.if-not-is_whole.false)
 
 pub returns : goal.returns
 returns c =

@@ -4,7 +4,7 @@ use Rattle.board.proofs.Views.{parts_are}
 use Rattle.board.specs.Sizes.{max_ids}
 use Rattle.board.proofs.board.Board.check_step.Goals as goal
 
-pub overflow-mul-width : goal.overflow-mul-width
-overflow-mul-width g c =
+pub overflow_mul-width : goal.overflow_mul-width
+overflow_mul-width g c =
     let few : c.width-width.result ≤ max_ids = omega (arith, c.width-width.ensures, parts_are c.args.self.now.state, c.args.self.now.few) in
     omega (arith, mul-le c.width-width.result c.width-width.result max_ids max_ids few few)

@@ -5,16 +5,16 @@ use Rattle.board.proofs.Back.{live_in}
 use Rattle.board.proofs.Views.{apart_is}
 use Rattle.board.proofs.board.Board.is_apart.Goals as goal
 
-pub is-aside-requires : goal.is-aside-requires
-is-aside-requires c =
-    let h = and_parts _ _ (sym c.if-are-live.ensures) in
+pub is_aside-requires : goal.is_aside-requires
+is_aside-requires c =
+    let h = and_parts _ _ (sym c.if-are_live.ensures) in
     (live_in _ c.args.self.now.past c.args.i h.0, live_in _ c.args.self.now.past c.args.j h.1)
 
-pub returns-then-are-live : goal.returns-then-are-live
-returns-then-are-live c =
-    let h = and_parts _ _ (sym c.if-are-live.ensures) in
+pub returns-then-are_live : goal.returns-then-are_live
+returns-then-are_live c =
+    let h = and_parts _ _ (sym c.if-are_live.ensures) in
     c.is_aside.ensures ∙ sym (apart_is c.args.self.now.state c.args.i c.args.j h.0 h.1)
 
-pub returns-else-are-live : goal.returns-else-are-live
+pub returns-else-are_live : goal.returns-else-are_live
 unfolding view_of
-returns-else-are-live c = c.if-are-live.false ∙ sym (and_left _ (is_aside c.args.self.now.state c.args.i c.args.j) (sym c.if-are-live.ensures))
+returns-else-are_live c = c.if-are_live.false ∙ sym (and_left _ (is_aside c.args.self.now.state c.args.i c.args.j) (sym c.if-are_live.ensures))

@@ -10,14 +10,14 @@ returns g c =
     let k = g.A.Amount.kind in
     let v = view_of c.args.self.now.state in
     let cells = c.args.cells.now in
-    let step = c.try-join-answer.ensures in
+    let step = c.try_join-answer.ensures in
     record {
       lender = refl;
       mark = refl;
       answer = step.answer;
-      tells = step_told v cells c.args.a c.args.b (next v, join_booked k v cells c.args.a c.args.b) c.try-join-answer.result step.answer;
+      tells = step_told v cells c.args.a c.args.b (next v, join_booked k v cells c.args.a c.args.b) c.try_join-answer.result step.answer;
       board = step.board;
       cells = step.cells;
       stays = step.stays;
-      reached = join_carries k v cells c.args.a c.args.b c.try-join-answer.result c.args.self.now.state c.try-join-answer.new.self.state c.try-join-answer.new.cells step.answer step.board step.cells;
+      reached = join_carries k v cells c.args.a c.args.b c.try_join-answer.result c.args.self.now.state c.try_join-answer.new.self.state c.try_join-answer.new.cells step.answer step.board step.cells;
     }

@@ -1,8 +1,8 @@
 use Rattle.board.proofs.Back.{live_counted}
 use Rattle.board.proofs.board.Board.live_count.Goals as goal
 
-pub overflow-sub-result : goal.overflow-sub-result
-overflow-sub-result c = (live_counted c.args.self.now.state c.args.self.now.past).0
+pub overflow_sub-result : goal.overflow_sub-result
+overflow_sub-result c = (live_counted c.args.self.now.state c.args.self.now.past).0
 
 pub returns : goal.returns
 returns c = (live_counted c.args.self.now.state c.args.self.now.past).1

@@ -10,13 +10,13 @@ use Rattle.board.proofs.Loaded.{view_started, standing_started, tidy_started}
 use Rattle.board.proofs.Told.{loads}
 use Rattle.board.proofs.board.Board.load.Goals as goal
 
-pub invariant-of-result : goal.invariant-of-result
-invariant-of-result g c =
+pub invariant_of-result : goal.invariant_of-result
+invariant_of-result g c =
     let k = g.A.Amount.kind in
     let job = job_of c.args.parts c.args.square.now c.args.marks.now in
-    let sound = (loads k g.met.A.Amount.laws job c.args.cells.now c.in-ok-check.ensures.tells).0 in
+    let sound = (loads k g.met.A.Amount.laws job c.args.cells.now c.in_ok-check.ensures.tells).0 in
     let start_past : Past (started job.parts job.marks).standing (started job.parts job.marks) = subst (λ n. Past n (started job.parts job.marks)) (sym (standing_started k job sound)) (tidy_started k job sound g.met.A.Amount.laws, standing_started k job sound) in
-    let p : ∥ Past c.start-state-state.result.standing c.start-state-state.result ∥₁ = ∣ subst (λ (s : State). Past s.standing s) (sym c.start-state-state.ensures) start_past ∣₁ in
+    let p : ∥ Past c.start_state-state.result.standing c.start_state-state.result ∥₁ = ∣ subst (λ (s : State). Past s.standing s) (sym c.start_state-state.ensures) start_past ∣₁ in
     (some_by_past _ p, (few_by_past _ p, (p, tt)))
 
 pub returns : goal.returns
@@ -24,12 +24,12 @@ returns g c =
     let k = g.A.Amount.kind in
     let job = job_of c.args.parts c.args.square.now c.args.marks.now in
     let cells = c.args.cells.now in
-    let s = loads k g.met.A.Amount.laws job cells c.in-ok-check.ensures.tells in
-    let view : view_of c.start-state-state.result ≡ start job = ap view_of c.start-state-state.ensures ∙ view_started k job s.0 in
+    let s = loads k g.met.A.Amount.laws job cells c.in_ok-check.ensures.tells in
+    let view : view_of c.start_state-state.result ≡ start job = ap view_of c.start_state-state.ensures ∙ view_started k job s.0 in
     record {
-      answer = c.in-ok-check.ensures.value;
-      tells = c.in-ok-check.ensures.tells;
-      board = (view, ap (λ (t : State). t.standing) c.start-state-state.ensures ∙ standing_started k job s.0);
+      answer = c.in_ok-check.ensures.value;
+      tells = c.in_ok-check.ensures.tells;
+      board = (view, ap (λ (t : State). t.standing) c.start_state-state.ensures ∙ standing_started k job s.0);
       cells = c.write_square.ensures;
       reached = subst (λ v. Reached k job v c.write_square.new.cells (load_booked k job)) (sym view) (subst (λ l. Reached k job (start job) l (load_booked k job)) (sym c.write_square.ensures) (by_load cells s.0 s.1));
     }

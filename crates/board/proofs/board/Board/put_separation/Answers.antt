@@ -7,11 +7,11 @@ use Rattle.board.specs.declared.state.State.{State}
 use Rattle.board.proofs.Back.{a_in, b_in, step_room, step_past, step_undone, step_fewer, step_separated, stays_step, some_by_past, few_by_past}
 use Rattle.board.proofs.board.Board.put_separation.Goals as goal
 
-pub put-separation-requires : goal.put-separation-requires
-put-separation-requires c = (a_in _ c.args.self.now.past _ _ c.requires, (b_in _ c.args.self.now.past _ _ c.requires, step_room _ c.args.self.now.past (Some (Separation c.args.a c.args.b)) c.requires))
+pub put_separation-requires : goal.put_separation-requires
+put_separation-requires c = (a_in _ c.args.self.now.past _ _ c.requires, (b_in _ c.args.self.now.past _ _ c.requires, step_room _ c.args.self.now.past (Some (Separation c.args.a c.args.b)) c.requires))
 
-pub invariant-of-self : goal.invariant-of-self
-invariant-of-self c =
+pub invariant_of-self : goal.invariant_of-self
+invariant_of-self c =
     let p : ∥ Past c.put_separation.new.self.standing c.put_separation.new.self ∥₁ = subst (λ (s : State). ∥ Past s.standing s ∥₁) (sym c.put_separation.ensures) (step_past _ c.args.self.now.past (Some (Separation c.args.a c.args.b)) c.requires) in
     (some_by_past _ p, (few_by_past _ p, (p, tt)))
 

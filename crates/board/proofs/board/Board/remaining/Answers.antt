@@ -9,14 +9,14 @@ returns-then-labels-parts g c = record {
   tells = remaining_told c.args.self.now.state c.args.self.now.past c.args.labels.now g.A.Amount.kind c.args.cells.now (Err LabelCount) (search rules);
 }
 
-pub returns-then-not-is-grouping : goal.returns-then-not-is-grouping
-returns-then-not-is-grouping g c = record {
+pub returns-then-not-is_grouping : goal.returns-then-not-is_grouping
+returns-then-not-is_grouping g c = record {
   value = search rules;
   tells = remaining_told c.args.self.now.state c.args.self.now.past c.args.labels.now g.A.Amount.kind c.args.cells.now (Err NotGrouping) (search rules);
 }
 
-pub returns-then-not-is-respected : goal.returns-then-not-is-respected
-returns-then-not-is-respected g c = record {
+pub returns-then-not-is_respected : goal.returns-then-not-is_respected
+returns-then-not-is_respected g c = record {
   value = search rules;
   tells = remaining_told c.args.self.now.state c.args.self.now.past c.args.labels.now g.A.Amount.kind c.args.cells.now (Err NotRespected) (search rules);
 }

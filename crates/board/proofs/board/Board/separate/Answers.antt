@@ -9,13 +9,13 @@ returns g c =
     let k = g.A.Amount.kind in
     let v = view_of c.args.self.now.state in
     let cells = c.args.cells.now in
-    let step = c.try-separation-answer.ensures in
+    let step = c.try_separation-answer.ensures in
     record {
       lender = refl;
       mark = refl;
       answer = step.answer;
-      tells = step_told v cells c.args.a c.args.b (separation_booked k v cells c.args.a c.args.b) c.try-separation-answer.result step.answer;
+      tells = step_told v cells c.args.a c.args.b (separation_booked k v cells c.args.a c.args.b) c.try_separation-answer.result step.answer;
       board = step.board;
       stays = step.stays;
-      reached = separation_carries k v cells c.args.a c.args.b c.try-separation-answer.result c.args.self.now.state c.try-separation-answer.new.self.state step.answer step.board;
+      reached = separation_carries k v cells c.args.a c.args.b c.try_separation-answer.result c.args.self.now.state c.try_separation-answer.new.self.state step.answer step.board;
     }

@@ -7,14 +7,14 @@ use Rattle.board.proofs.board.Board.undo.Goals as goal
 pub bounds-self-self : goal.bounds-self-self
 bounds-self-self c = omega (arith, c.requires, standing_by_past c.args.self.now.state c.args.self.now.past)
 
-pub offset-bounds-self-self : goal.offset-bounds-self-self
-offset-bounds-self-self c = omega (arith, c.requires, standing_by_past c.args.self.now.state c.args.self.now.past)
+pub offset_bounds-self-self : goal.offset_bounds-self-self
+offset_bounds-self-self c = omega (arith, c.requires, standing_by_past c.args.self.now.state c.args.self.now.past)
 
-pub take-back-requires : goal.take-back-requires
-take-back-requires c = undo_able c.args.self.now.state c.args.self.now.past c.requires
+pub take_back-requires : goal.take_back-requires
+take_back-requires c = undo_able c.args.self.now.state c.args.self.now.past c.requires
 
-pub invariant-of-self : goal.invariant-of-self
-invariant-of-self c =
+pub invariant_of-self : goal.invariant_of-self
+invariant_of-self c =
     let p : ∥ Past c.take_back.new.self.standing c.take_back.new.self ∥₁ = subst (λ (s : State). ∥ Past s.standing s ∥₁) (sym c.take_back.ensures) (undo_past c.args.self.now.state c.args.self.now.past c.requires) in
     (some_by_past _ p, (few_by_past _ p, (p, tt)))
 
