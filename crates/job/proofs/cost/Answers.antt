@@ -9,7 +9,7 @@ use Rattle.job.proofs.cost.Goals as goal
 pub returns-in_err-check : goal.returns-in_err-check
 returns-in_err-check g c = record {
   value = search rules;
-  tells = price_told g.A.Amount.kind g.met.A.Amount.laws (job_of c.args.parts c.args.square.now c.args.marks.now) c.args.labels.now c.from-residual.result (search rules);
+  tells = price_told g.A.Amount.kind g.met.A.Amount.laws (job_of c.args.parts c.args.square.now c.args.marks.now) c.args.labels.now c.from_residual.result (search rules);
   exact = search rules;
 }
 
