@@ -1,7 +1,7 @@
 -- What the laws give of totals: one lemma for each end of a list, and all else by induction.
 use Rattle.std.proofs.Common.{◌≡◌, ℕ, ◌+◌, ◌*◌, ◌≤◌, List, [], ◌∷◌, ◌++◌, map, length, fold, sym, refl, ap, ◌∙◌, arith}
 use mathlib.Core.List.{Permᴰ}
-use Rattle.std.specs.List.{flat_map, AllByRecursion as All}
+use Rattle.std.specs.List.{flat_map, AllByRecursion}
 use Rattle.amount.specs.Kind.{Kind, Laws, span_limit, AtMost}
 use Rattle.amount.specs.Totals.{total, spans, ExactTotals}
 use Rattle.amount.proofs.Order.{irreflexive, sum_at_most}
@@ -113,7 +113,7 @@ module _ {A : Type 0} (k : Kind A) (laws : Laws k) where
         let rest = total_map_sum f g is (omega arith) in
         cc (total_cons (k.sum (f i) (g i)) (map (λ i. k.sum (f i) (g i)) is) (omega arith), total_cons (f i) (map f is) (omega arith), total_cons (g i) (map g is) (omega arith))
 
-    pub total_map_at_most : (f g : I → A) (is : List I) → spans k (map f is) + spans k (map g is) ≤ span_limit → All (λ i. AtMost k (f i) (g i)) is → AtMost k (total k (map f is)) (total k (map g is))
+    pub total_map_at_most : (f g : I → A) (is : List I) → spans k (map f is) + spans k (map g is) ≤ span_limit → AllByRecursion (λ i. AtMost k (f i) (g i)) is → AtMost k (total k (map f is)) (total k (map g is))
     total_map_at_most f g [] h e = irreflexive k laws k.zero
     total_map_at_most f g (i ∷ is) h e =
         let a : k.span (total k (map f is)) ≤ spans k (map f is) = span_total (map f is) (omega arith) in

@@ -1,7 +1,7 @@
 -- Totals of lists of amounts.
 use Rattle.std.specs.Prelude.{◌≡◌, ℕ, ◌+◌, ◌≤◌, List, [], ◌∷◌, ◌++◌, map, fold}
 use mathlib.Core.List.{Permᴰ}
-use Rattle.std.specs.List.{flat_map, AllByRecursion as All}
+use Rattle.std.specs.List.{flat_map, AllByRecursion}
 use Rattle.amount.specs.Kind.{Kind, span_limit, AtMost}
 
 -- zero, plus the first, plus the second, and so on
@@ -28,4 +28,4 @@ pub record ExactTotals {A : Type 0} (k : Kind A) : Type 0 where
   pub any_bracketing : (xss : List (List A)) → spans k (flat_map (λ xs. xs) xss) ≤ span_limit → total k (flat_map (λ xs. xs) xss) ≡ total k (map (total k) xss)
   pub total_of_sums : (ps : List (A × A)) → spans k (lefts ps) + spans k (rights ps) ≤ span_limit → total k (map (λ p. k.sum p.0 p.1) ps) ≡ k.sum (total k (lefts ps)) (total k (rights ps))
   -- item by item at most gives a total at most
-  pub at_most : (ps : List (A × A)) → spans k (lefts ps) + spans k (rights ps) ≤ span_limit → All (λ p. AtMost k p.0 p.1) ps → AtMost k (total k (lefts ps)) (total k (rights ps))
+  pub at_most : (ps : List (A × A)) → spans k (lefts ps) + spans k (rights ps) ≤ span_limit → AllByRecursion (λ p. AtMost k p.0 p.1) ps → AtMost k (total k (lefts ps)) (total k (rights ps))

@@ -1,7 +1,7 @@
 -- What remains is at least zero on every reached board.
 use Rattle.std.specs.Prelude.{◌≡◌, ℕ, ◌+◌, ◌*◌, ◌≤◌, Bool, true, false, ◌&&◌, ◌⊎◌, List, [], ◌∷◌, map, fold, refl}
 use Rattle.std.proofs.Common.{sym, ap, subst, subst₂, ◌∙◌, inl, inr, arith}
-use Rattle.std.specs.List.{AllByRecursion as All}
+use Rattle.std.specs.List.{AllByRecursion}
 use Rattle.std.proofs.ByRecursion.{All-weaker}
 use Rattle.std.proofs.lemmas.Bool.{cases_Bool, cond-true, cond-false, and_parts}
 use Rattle.amount.specs.Kind.{Kind, Laws, AtMost, span_limit}
@@ -40,7 +40,7 @@ module _ {A : Type 0} (k : Kind A) (laws : Laws k) where
   due_at_least false x h = positive_at_least x
 
   -- no item spans more than all
-  each_under : {I : Type 0} (f : I → A) (is : List I) → All (λ i. k.span (f i) ≤ spans k (map f is)) is
+  each_under : {I : Type 0} (f : I → A) (is : List I) → AllByRecursion (λ i. k.span (f i) ≤ spans k (map f is)) is
   each_under f [] = tt
   each_under f (i ∷ is) = (omega arith, All-weaker (λ j. k.span (f j) ≤ spans k (map f is)) (λ j. k.span (f j) ≤ k.span (f i) + spans k (map f is)) (λ j h. omega arith) is (each_under f is))
 
@@ -67,7 +67,7 @@ module _ {A : Type 0} (k : Kind A) (laws : Laws k) where
         let room = roomy in
         let under : spans k (map due_at (pairs (width v))) ≤ spans k (map live_at (pairs (width v))) = spans_map_under k laws due_at live_at (pairs (width v)) (λ p. due_under k laws v cells labels p.0 p.1) in
         let none : spans k (map (λ (_ : ℕ × ℕ). k.zero) (pairs (width v))) ≡ 0 = no_spans (pairs (width v)) in
-        let items : All (λ p. AtMost k k.zero (due_at p)) (pairs (width v)) = All-weaker (λ p. k.span (live_at p) ≤ spans k (map live_at (pairs (width v)))) (λ p. AtMost k k.zero (due_at p)) (λ p h. one p.0 p.1 (omega arith) (cases_Bool (is_open v p.0 p.1))) (pairs (width v)) (each_under live_at (pairs (width v))) in
+        let items : AllByRecursion (λ p. AtMost k k.zero (due_at p)) (pairs (width v)) = All-weaker (λ p. k.span (live_at p) ≤ spans k (map live_at (pairs (width v)))) (λ p. AtMost k k.zero (due_at p)) (λ p h. one p.0 p.1 (omega arith) (cases_Bool (is_open v p.0 p.1))) (pairs (width v)) (each_under live_at (pairs (width v))) in
         let totals = total_map_at_most k laws (λ (_ : ℕ × ℕ). k.zero) due_at (pairs (width v)) (omega arith) items in
         subst₂ (AtMost k) (zeros (pairs (width v))) (sym (remaining_due k laws v cells labels (omega arith))) totals
       where

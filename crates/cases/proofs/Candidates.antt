@@ -1,6 +1,6 @@
 -- The least cost of a small job by trying all labels that could be a grouping: each part's at most its number.
 use Rattle.std.proofs.Common.{◌≡◌, ℕ, zero, suc, ◌+◌, ◌<◌, ◌≤◌, Bool, true, not, ◌&&◌, ◌||◌, ◌⊎◌, List, [], ◌∷◌, ◌++◌, map, length, get_or, refl, subst, inl, inr, arith}
-use Rattle.std.specs.List.{range_with_len, flat_map, AllByRecursion as All}
+use Rattle.std.specs.List.{range_with_len, flat_map, AllByRecursion}
 use Rattle.std.proofs.lemmas.Bool.{cases_eq, and_parts, and_from, or_cases, both_ways, not_from_true, not-true}
 use Rattle.amount.specs.Kind.{Kind, AtMost}
 use Rattle.job.specs.Job.{Job, Mirrored}
@@ -14,35 +14,35 @@ candidates p zero = [] ∷ []
 candidates p (suc m) = flat_map (λ l. map (λ rest. l ∷ rest) (candidates (suc p) m)) (range_with_len 0 (suc p))
 
 module _ {X : Type 0} (P : X → Type 0) where
-  all_front : (xs ys : List X) → All P (xs ++ ys) → All P xs
+  all_front : (xs ys : List X) → AllByRecursion P (xs ++ ys) → AllByRecursion P xs
   all_front [] ys h = tt
   all_front (x ∷ xs) ys h = (h.0, all_front xs ys h.1)
 
-  all_back : (xs ys : List X) → All P (xs ++ ys) → All P ys
+  all_back : (xs ys : List X) → AllByRecursion P (xs ++ ys) → AllByRecursion P ys
   all_back [] ys h = h
   all_back (x ∷ xs) ys h = all_back xs ys h.1
 
   -- of each block that is counted
-  all_block : (f : ℕ → List X) (a n l : ℕ) → a ≤ l → l < a + n → All P (flat_map f (range_with_len a n)) → All P (f l)
+  all_block : (f : ℕ → List X) (a n l : ℕ) → a ≤ l → l < a + n → AllByRecursion P (flat_map f (range_with_len a n)) → AllByRecursion P (f l)
   all_block f a zero l p q h = let no : ⊥ = omega arith in absurd no
   all_block f a (suc n) l p q h = go (λ m. all_block f (a + 1) n l m (omega arith) (all_back (f a) (flat_map f (range_with_len (a + 1) n)) h)) (all_front (f a) (flat_map f (range_with_len (a + 1) n)) h) (cases_eq a l)
     where
-      go : (a + 1 ≤ l → All P (f l)) → All P (f a) → (a ≡ l) ⊎ (a ≡ l → ⊥) → All P (f l)
-      go later here (inl e) = subst (λ m. All P (f m)) e here
+      go : (a + 1 ≤ l → AllByRecursion P (f l)) → AllByRecursion P (f a) → (a ≡ l) ⊎ (a ≡ l → ⊥) → AllByRecursion P (f l)
+      go later here (inl e) = subst (λ m. AllByRecursion P (f m)) e here
       go later here (inr d) = later (omega arith)
 
-  all_mapped : {Y : Type 0} (g : Y → X) (ys : List Y) → All P (map g ys) → All (λ y. P (g y)) ys
+  all_mapped : {Y : Type 0} (g : Y → X) (ys : List Y) → AllByRecursion P (map g ys) → AllByRecursion (λ y. P (g y)) ys
   all_mapped g [] h = tt
   all_mapped g (y ∷ ys) h = (h.0, all_mapped g ys h.1)
 
 -- what holds of all candidates holds of all such labels
-pub of_candidates : (P : List ℕ → Type 0) (p m : ℕ) → All P (candidates p m) → (labels : List ℕ) → length labels ≡ m → ((i : ℕ) → i < m → get_or labels i 0 ≤ p + i) → P labels
+pub of_candidates : (P : List ℕ → Type 0) (p m : ℕ) → AllByRecursion P (candidates p m) → (labels : List ℕ) → length labels ≡ m → ((i : ℕ) → i < m → get_or labels i 0 ≤ p + i) → P labels
 of_candidates P p zero h [] e l = h.0
 of_candidates P p zero h (x ∷ xs) e l = let no : ⊥ = omega arith in absurd no
 of_candidates P p (suc m) h [] e l = let no : ⊥ = omega arith in absurd no
 of_candidates P p (suc m) h (x ∷ xs) e l =
     let first : x ≤ p + 0 = l 0 (omega arith) in
-    let block : All P (map (λ rest. x ∷ rest) (candidates (suc p) m)) = all_block P (λ c. map (λ rest. c ∷ rest) (candidates (suc p) m)) 0 (suc p) x (omega arith) (omega arith) h in
+    let block : AllByRecursion P (map (λ rest. x ∷ rest) (candidates (suc p) m)) = all_block P (λ c. map (λ rest. c ∷ rest) (candidates (suc p) m)) 0 (suc p) x (omega arith) (omega arith) h in
     of_candidates (λ rest. P (x ∷ rest)) (suc p) m (all_mapped P (λ rest. x ∷ rest) (candidates (suc p) m) block) xs (omega arith) (λ i q. omega (arith, l (suc i) (omega arith)))
 
 -- the test of one candidate: no respectful grouping, or not below
@@ -53,7 +53,7 @@ abbrev pub all_of : {X : Type 0} → (X → Bool) → List X → Bool
 all_of p [] = true
 all_of p (x ∷ xs) = p x && all_of p xs
 
-all_told : {X : Type 0} (p : X → Bool) (xs : List X) → all_of p xs ≡ true → All (λ x. p x ≡ true) xs
+all_told : {X : Type 0} (p : X → Bool) (xs : List X) → all_of p xs ≡ true → AllByRecursion (λ x. p x ≡ true) xs
 all_told p [] e = tt
 all_told p (x ∷ xs) e = let h = and_parts (p x) (all_of p xs) e in (h.0, all_told p xs h.1)
 

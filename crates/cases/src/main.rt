@@ -2,7 +2,7 @@
 #![tactic(auto)]
 
 ghost use Rattle.std.specs.Prelude.{◌≡◌, [], ◌∷◌, length};
-ghost use Rattle.std.specs.List.{AllByRecursion as All};
+ghost use Rattle.std.specs.List.{AllByRecursion};
 ghost use Rattle.cases.specs.Cheaper.{cheaper_of};
 ghost use Rattle.cases.specs.Worked.{square_of, at, worked_cases, Holds};
 
@@ -46,7 +46,7 @@ impl Shown for Ranked {
 // How many worked cases are proved: the table of them holds by computation over the definitions.
 pub fn worked_cases() -> usize
     ensures counted { result ≡ length worked_cases }
-    ensures hold { All Holds worked_cases }
+    ensures hold { AllByRecursion Holds worked_cases }
 {
     11
 }

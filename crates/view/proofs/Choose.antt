@@ -2,7 +2,7 @@
 use Rattle.std.proofs.Common.{◌≡◌, ℕ, zero, suc, ◌+◌, ◌<◌, ◌≤◌, Bool, true, false, cond, not, ◌&&◌, eqb, ◌⊎◌, List, [], ◌∷◌, ◌++◌, map, filter, sym, refl, ap, ◌∙◌, subst, inl, inr, append-nil, add-one, arith}
 use mathlib.Core.List.Permᴰ
 use mathlib.Core.List.{Permᴰ}
-use Rattle.std.specs.List.{range_with_len, AllByRecursion as All}
+use Rattle.std.specs.List.{range_with_len, AllByRecursion}
 use Rattle.std.proofs.lemmas.List.{map-append}
 use Rattle.std.proofs.lemmas.List.Elements.{filter-append}
 use Rattle.std.proofs.ByRecursion.{All-weaker}
@@ -17,7 +17,7 @@ kept_yes p x xs e = cond-true (p x) (x ∷ filter p xs) (filter p xs) e
 pub kept_no : (p : ℕ → Bool) (x : ℕ) (xs : List ℕ) → p x ≡ false → filter p (x ∷ xs) ≡ filter p xs
 kept_no p x xs e = cond-false (p x) (x ∷ filter p xs) (filter p xs) e
 
-pub kept_same : (p q : ℕ → Bool) (xs : List ℕ) → All (λ x. p x ≡ q x) xs → filter p xs ≡ filter q xs
+pub kept_same : (p q : ℕ → Bool) (xs : List ℕ) → AllByRecursion (λ x. p x ≡ q x) xs → filter p xs ≡ filter q xs
 kept_same p q [] h = refl
 kept_same p q (x ∷ xs) h = ap (λ b. cond b (x ∷ filter p xs) (filter p xs)) h.0 ∙ ap (λ l. cond (q x) (x ∷ l) l) (kept_same p q xs h.1)
 
@@ -25,7 +25,7 @@ pub kept_alike : (p q : ℕ → Bool) → ((x : ℕ) → p x ≡ q x) → (xs : 
 kept_alike p q h [] = refl
 kept_alike p q h (x ∷ xs) = ap (λ b. cond b (x ∷ filter p xs) (filter p xs)) (h x) ∙ ap (λ l. cond (q x) (x ∷ l) l) (kept_alike p q h xs)
 
-pub counted : (s m : ℕ) → All (λ x. (s ≤ x) × (x < s + m)) (range_with_len s m)
+pub counted : (s m : ℕ) → AllByRecursion (λ x. (s ≤ x) × (x < s + m)) (range_with_len s m)
 counted s zero = tt
 counted s (suc m) = ((omega arith, omega arith), All-weaker (λ x. (s + 1 ≤ x) × (x < s + 1 + m)) (λ x. (s ≤ x) × (x < s + suc m)) (λ x h. (omega arith, omega arith)) (range_with_len (s + 1) m) (counted (s + 1) m))
 
@@ -71,7 +71,7 @@ map_map : {X : Type 0} (F : ℕ × ℕ → X) (g : ℕ → ℕ × ℕ) (xs : Lis
 map_map F g [] = refl
 map_map F g (x ∷ xs) = ap (λ l. F (g x) ∷ l) (map_map F g xs)
 
-all_blank_row : {X : Type 0} {z : X} (g : ℕ → X) → ((x : ℕ) → g x ≡ z) → (xs : List ℕ) → All (λ x. x ≡ z) (map g xs)
+all_blank_row : {X : Type 0} {z : X} (g : ℕ → X) → ((x : ℕ) → g x ≡ z) → (xs : List ℕ) → AllByRecursion (λ x. x ≡ z) (map g xs)
 all_blank_row g h [] = tt
 all_blank_row g h (x ∷ xs) = (h x, all_blank_row g h xs)
 

@@ -1,6 +1,6 @@
 -- How many pairs there are, and how many of them are open.
 use Rattle.std.proofs.Common.{◌≡◌, ℕ, zero, suc, ◌+◌, ◌-◌, ◌*◌, ◌<◌, ◌≤◌, Bool, true, false, cond, not, ◌&&◌, ◌||◌, List, [], ◌∷◌, ◌++◌, map, length, filter, sym, refl, ap, ◌∙◌, suc-mul, mul-le-mul, mul-suc, add-one, arith}
-use Rattle.std.specs.List.{AllByRecursion as All}
+use Rattle.std.specs.List.{AllByRecursion}
 use Rattle.std.proofs.lemmas.Nat.{le-div, div_below}
 use Rattle.std.proofs.lemmas.List.{length-append}
 use Rattle.std.proofs.lemmas.List.FromFn.{length-map-range_with_len}
@@ -69,7 +69,7 @@ summed_append : (xs ys : List ℕ) → summed (xs ++ ys) ≡ summed xs + summed 
 summed_append [] ys = omega arith
 summed_append (x ∷ xs) ys = omega (arith, summed_append xs ys)
 
-summed_under : (f g : ℕ → ℕ) (xs : List ℕ) → All (λ x. f x ≤ g x) xs → summed (map f xs) ≤ summed (map g xs)
+summed_under : (f g : ℕ → ℕ) (xs : List ℕ) → AllByRecursion (λ x. f x ≤ g x) xs → summed (map f xs) ≤ summed (map g xs)
 summed_under f g [] h = omega arith
 summed_under f g (x ∷ xs) h = omega (arith, h.0, summed_under f g xs h.1)
 

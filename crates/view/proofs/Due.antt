@@ -1,6 +1,6 @@
 -- What one pair of ids still costs, as one sum: the remaining cost is the total of these.
 use Rattle.std.proofs.Common.{◌≡◌, ℕ, ◌*◌, ◌≤◌, Bool, true, false, cond, not, ◌&&◌, eqb, ◌⊎◌, List, [], ◌∷◌, map, sym, refl, ap, ◌∙◌, ap₂, inl, inr, arith}
-use Rattle.std.specs.List.{AllByRecursion as All}
+use Rattle.std.specs.List.{AllByRecursion}
 use Rattle.std.proofs.lemmas.Bool.{cond-true, cond-false, cases_Bool, cases_eq, eq-eqb, ne_eqb, and_left, and_parts}
 use Rattle.amount.specs.Kind.{Kind, Laws, span_limit}
 use Rattle.amount.specs.Signs.{positive_part, negative_part}
@@ -28,7 +28,7 @@ eqb_swap i j = go (cases_eq i j)
     go (inl e) = eq-eqb i j e ∙ sym (eq-eqb j i (sym e))
     go (inr d) = ne_eqb i j d ∙ sym (ne_eqb j i (λ e. d (sym e)))
 
-pub map_same : {I X : Type 0} (f g : I → X) (is : List I) → All (λ i. f i ≡ g i) is → map f is ≡ map g is
+pub map_same : {I X : Type 0} (f g : I → X) (is : List I) → AllByRecursion (λ i. f i ≡ g i) is → map f is ≡ map g is
 map_same f g [] h = refl
 map_same f g (i ∷ is) h = ap₂ (λ x l. x ∷ l) h.0 (map_same f g is h.1)
 

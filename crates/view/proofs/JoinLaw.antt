@@ -1,6 +1,6 @@
 -- What remains before a join is what the join books and what remains after it.
 use Rattle.std.proofs.Common.{◌≡◌, ℕ, ◌+◌, ◌*◌, ◌≤◌, Bool, true, false, cond, not, ◌&&◌, ◌⊎◌, List, [], ◌∷◌, ◌++◌, map, sym, refl, ap, ◌∙◌, ap₂, inl, inr, arith}
-use Rattle.std.specs.List.{AllByRecursion as All}
+use Rattle.std.specs.List.{AllByRecursion}
 use Rattle.std.proofs.ByRecursion.{All-weaker}
 use Rattle.std.proofs.lemmas.Bool.{cond-true, cases_Bool, and_from}
 use Rattle.amount.specs.Kind.{Kind, Laws, span_limit}
@@ -114,11 +114,11 @@ module _ {A : Type 0} (k : Kind A) (laws : Laws k) where
           ∙ ap (λ u. cond (is_open v x y) (due k (share v labels x y) u) k.zero) (amount_same v a b g o n k laws cells room x y p q)
 
       -- one amount of the row is a part of all
-      in_row : (f : ℕ → A) (xs : List ℕ) → All (λ w. k.span (f w) ≤ spans k (map f xs)) xs
+      in_row : (f : ℕ → A) (xs : List ℕ) → AllByRecursion (λ w. k.span (f w) ≤ spans k (map f xs)) xs
       in_row f [] = tt
       in_row f (x ∷ xs) = (omega arith, All-weaker (λ w. k.span (f w) ≤ spans k (map f xs)) (λ w. k.span (f w) ≤ spans k (map f (x ∷ xs))) (λ w m. omega arith) xs (in_row f xs))
 
-      all_both : (P Q R : ℕ → Type 0) (xs : List ℕ) → All P xs → All Q xs → All R xs → All (λ w. P w × Q w × R w) xs
+      all_both : (P Q R : ℕ → Type 0) (xs : List ℕ) → AllByRecursion P xs → AllByRecursion Q xs → AllByRecursion R xs → AllByRecursion (λ w. P w × Q w × R w) xs
       all_both P Q R [] p q s = tt
       all_both P Q R (x ∷ xs) p q s = ((p.0, q.0, s.0), all_both P Q R xs p.1 q.1 s.1)
 

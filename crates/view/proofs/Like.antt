@@ -1,7 +1,7 @@
 -- Lists that are alike up to order and zeros, and the values of all pairs of a list.
 use Rattle.std.proofs.Common.{◌≡◌, ℕ, ◌+◌, ◌≤◌, List, [], ◌∷◌, ◌++◌, map, sym, refl, ap, ◌∙◌, subst, append_assoc, arith}
 use mathlib.Core.List.{Permᴰ}
-use Rattle.std.specs.List.{AllByRecursion as All}
+use Rattle.std.specs.List.{AllByRecursion}
 use Rattle.amount.specs.Kind.{Kind, Laws, span_limit}
 use Rattle.amount.specs.Totals.{total, spans}
 use Rattle.amount.proofs.Totals.{total_cons, span_total, front_two}
@@ -56,7 +56,7 @@ module _ {X : Type 0} {z : X} where
   like_perm f (Permᴰ.swap {l = l} d e) = like_swap (ap f d) (ap f e)
   like_perm f (Permᴰ.trans p q) = like_trans (like_perm f p) (like_perm f q)
 
-  pub all_blank : (xs : List X) → All (λ x. x ≡ z) xs → Like z xs []
+  pub all_blank : (xs : List X) → AllByRecursion (λ x. x ≡ z) xs → Like z xs []
   all_blank [] h = like_nil
   all_blank (x ∷ xs) h = like_blank h.0 (all_blank xs h.1)
 
@@ -88,11 +88,11 @@ module _ {X : Type 0} {z : X} (f : ℕ → ℕ → X) where
       map_end g (v ∷ us) u = ap (λ l. g v ∷ l) (map_end g us u)
 
 -- two functions that agree on the pairs of a list
-pub vals_same : {X : Type 0} (f g : ℕ → ℕ → X) (P : ℕ → Type 0) → ((x y : ℕ) → P x → P y → f x y ≡ g x y) → (xs : List ℕ) → All P xs → vals f xs ≡ vals g xs
+pub vals_same : {X : Type 0} (f g : ℕ → ℕ → X) (P : ℕ → Type 0) → ((x y : ℕ) → P x → P y → f x y ≡ g x y) → (xs : List ℕ) → AllByRecursion P xs → vals f xs ≡ vals g xs
 vals_same f g P e [] h = refl
 vals_same f g P e (x ∷ xs) h = cc (row xs h.1, vals_same f g P e xs h.1)
   where
-    row : (ys : List ℕ) → All P ys → map (f x) ys ≡ map (g x) ys
+    row : (ys : List ℕ) → AllByRecursion P ys → map (f x) ys ≡ map (g x) ys
     row [] k = refl
     row (y ∷ ys) k = cc (e x y h.0 k.0, row ys k.1)
 

@@ -1,7 +1,7 @@
 -- The values of all pairs of live ids, split at a join: before it, at the two that are joined; after it, at the new one.
 use Rattle.std.proofs.Common.{◌≡◌, ℕ, ◌-◌, ◌<◌, Bool, true, false, not, ◌&&◌, ◌||◌, eqb, ◌⊎◌, List, ◌∷◌, map, length, filter, sym, refl, ap, ◌∙◌, subst, inl, inr, arith}
 use mathlib.Core.List.{Permᴰ}
-use Rattle.std.specs.List.{range_with_len, AllByRecursion as All}
+use Rattle.std.specs.List.{range_with_len, AllByRecursion}
 use Rattle.std.proofs.ByRecursion.{kept_by_passes}
 use Rattle.std.proofs.lemmas.Bool.{cases_eq, eq-eqb, ne_eqb, and_from, not_from_false, or_right}
 use Rattle.job.specs.Cost.{pairs}
@@ -55,7 +55,7 @@ module _ (v : View) (a b : ℕ) where
       let one = front (joined v a b).live (next v) 0 (width v) (omega arith) (omega arith) new in
       subst (λ l. Permᴰ (ids (joined v a b)) (next v ∷ l)) (kept_alike (but (joined v a b).live (next v)) (is_other v a b) (but_new n) (range_with_len 0 (width v))) one
 
-  pub others_pass : All (λ i. is_other v a b i ≡ true) (others v a b)
+  pub others_pass : AllByRecursion (λ i. is_other v a b i ≡ true) (others v a b)
   others_pass = kept_by_passes (is_other v a b) (range_with_len 0 (width v))
 
   module _ {X : Type 0} {z : X} (f : ℕ → ℕ → X) (symmetric : (i j : ℕ) → f i j ≡ f j i) where

@@ -1,6 +1,6 @@
 -- A loaded board: its view is good, and its amounts are those of the job.
 use Rattle.std.proofs.Common.{◌≡◌, ℕ, zero, suc, ◌+◌, ◌-◌, ◌<◌, ◌≤◌, Bool, true, false, cond, ◌&&◌, eqb, ltb, ◌⊎◌, List, length, Some, None, filter, unwrap_or, sym, refl, ap, ◌∙◌, subst, inl, inr, add-one, arith}
-use Rattle.std.specs.List.{range_with_len, AllByRecursion as All}
+use Rattle.std.specs.List.{range_with_len, AllByRecursion}
 use Rattle.std.proofs.ByRecursion.{All-append, All-map, All-weaker}
 use Rattle.std.proofs.lemmas.Bool.{cases_Bool, eq-eqb, eqb-true, and_parts, and_from, and_left, and_right, ltb-true, lt-ltb, cond-true}
 use Rattle.amount.specs.Kind.{Kind}
@@ -62,10 +62,10 @@ module _ {A : Type 0} (k : Kind A) (job : Job A) (sound : Sound k job) where
       ∙ ap (λ t. unwrap_or t (amount_in k (start job) cells i j)) (cond-true (ltb i job.parts && ltb j job.parts) (Some (amount_at k job i j)) None (and_from (ltb i job.parts) (ltb j job.parts) (lt-ltb i job.parts hi) (lt-ltb j job.parts hj)))
 
 -- the pairs of n parts have the smaller part first
-pub pairs_rise : (n : ℕ) → All (λ p. (p.0 < p.1) × (p.1 < n)) (pairs n)
+pub pairs_rise : (n : ℕ) → AllByRecursion (λ p. (p.0 < p.1) × (p.1 < n)) (pairs n)
 pairs_rise zero = tt
 pairs_rise (suc n) =
-    subst (All (λ p. (p.0 < p.1) × (p.1 < suc n))) (sym (pairs_more n) ∙ ap pairs (add-one n))
+    subst (AllByRecursion (λ p. (p.0 < p.1) × (p.1 < suc n))) (sym (pairs_more n) ∙ ap pairs (add-one n))
     (All-append (λ p. (p.0 < p.1) × (p.1 < suc n)) (pairs n) (row n)
     (All-weaker (λ p. (p.0 < p.1) × (p.1 < n)) (λ p. (p.0 < p.1) × (p.1 < suc n)) (λ p h. (h.0, omega arith)) (pairs n) (pairs_rise n))
     (All-map (λ p. (p.0 < p.1) × (p.1 < suc n)) (λ i. (i, n)) (range_with_len 0 n) (All-weaker (λ i. (0 ≤ i) × (i < 0 + n)) (λ i. (i < n) × (n < suc n)) (λ i h. (omega arith, omega arith)) (range_with_len 0 n) (counted 0 n))))

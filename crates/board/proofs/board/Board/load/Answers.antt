@@ -17,7 +17,7 @@ invariant_of-result g c =
     let sound = (loads k g.met.A.Amount.laws job c.args.cells.now c.in_ok-check.ensures.tells).0 in
     let start_past : Past (started job.parts job.marks).standing (started job.parts job.marks) = subst (λ n. Past n (started job.parts job.marks)) (sym (standing_started k job sound)) (tidy_started k job sound g.met.A.Amount.laws, standing_started k job sound) in
     let p : ∥ Past c.start_state-state.result.standing c.start_state-state.result ∥₁ = ∣ subst (λ (s : State). Past s.standing s) (sym c.start_state-state.ensures) start_past ∣₁ in
-    (some_by_past _ p, (few_by_past _ p, (p, tt)))
+    record { some = some_by_past _ p; few = few_by_past _ p; past = p }
 
 pub returns : goal.returns
 returns g c =

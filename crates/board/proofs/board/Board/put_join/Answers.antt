@@ -24,7 +24,7 @@ pub invariant_of-self : goal.invariant_of-self
 invariant_of-self c =
     let is = put _ _ _ _ _ _ c.put_join.ensures c.joined_row-row.ensures c.joined_members-members.ensures in
     let p : ∥ Past c.put_join.new.self.standing c.put_join.new.self ∥₁ = subst (λ (s : State). ∥ Past s.standing s ∥₁) (sym is) (step_past _ c.args.self.now.past (Some (Join c.args.a c.args.b)) c.requires) in
-    (some_by_past _ p, (few_by_past _ p, (p, tt)))
+    record { some = some_by_past _ p; few = few_by_past _ p; past = p }
 
 pub returns : goal.returns
 returns c =

@@ -13,7 +13,7 @@ put_separation-requires c = (a_in _ c.args.self.now.past _ _ c.requires, (b_in _
 pub invariant_of-self : goal.invariant_of-self
 invariant_of-self c =
     let p : ∥ Past c.put_separation.new.self.standing c.put_separation.new.self ∥₁ = subst (λ (s : State). ∥ Past s.standing s ∥₁) (sym c.put_separation.ensures) (step_past _ c.args.self.now.past (Some (Separation c.args.a c.args.b)) c.requires) in
-    (some_by_past _ p, (few_by_past _ p, (p, tt)))
+    record { some = some_by_past _ p; few = few_by_past _ p; past = p }
 
 pub returns : goal.returns
 returns c =

@@ -16,7 +16,7 @@ take_back-requires c = undo_able c.args.self.now.state c.args.self.now.past c.re
 pub invariant_of-self : goal.invariant_of-self
 invariant_of-self c =
     let p : ∥ Past c.take_back.new.self.standing c.take_back.new.self ∥₁ = subst (λ (s : State). ∥ Past s.standing s ∥₁) (sym c.take_back.ensures) (undo_past c.args.self.now.state c.args.self.now.past c.requires) in
-    (some_by_past _ p, (few_by_past _ p, (p, tt)))
+    record { some = some_by_past _ p; few = few_by_past _ p; past = p }
 
 pub returns : goal.returns
 returns c = record {
