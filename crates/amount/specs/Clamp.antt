@@ -1,5 +1,5 @@
 -- Whole numbers held between -2^50 and 2^50.
-use Rattle.std.specs.Prelude.{◌^◌, ◌≤◌, ℤ, pos, neg_ℤ, unsigned_abs}
+use Rattle.std.specs.Prelude.{◌≤◌, ℤ, pos, neg_ℤ, unsigned_abs}
 use Rattle.std.proofs.Common.{arith}
 use Rattle.std.specs.Int.{int_max, int_min}
 use Rattle.std.proofs.lemmas.Int.{ints, clamps}

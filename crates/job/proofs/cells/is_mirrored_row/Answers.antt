@@ -1,5 +1,4 @@
 use Rattle.std.proofs.Common.{sym, ◌∙◌, rules}
-use Rattle.job.specs.Job.{is_mirrored_at}
 use Rattle.job.proofs.Every.{every_more, every_fails}
 use Rattle.job.proofs.cells.is_mirrored_row.Goals as goal
 
