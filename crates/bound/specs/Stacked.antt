@@ -7,7 +7,7 @@ use Rattle.amount.proofs.Order.{at_most_itself}
 use Rattle.view.specs.Remaining.{remaining}
 use Rattle.view.specs.View.{View, ids}
 use Rattle.bound.specs.Lawful.{Meaning, max_bound_span, Lawful}
-use Rattle.bound.specs.Layers.{zero_meaning, greater_meaning, from_size_meaning, alone, greater, from_size, stack_meaning, StacksLawful}
+use Rattle.bound.specs.Layers.{zero_meaning, greater_meaning, from_size_meaning}
 use Rattle.bound.specs.Least.{remaining_at_least}
 
 module _ {A : Type 0} (k : Kind A) (laws : Laws k) where
@@ -36,8 +36,3 @@ module _ {A : Type 0} (k : Kind A) (laws : Laws k) where
 
   pub from_size_lawful : (m : ℕ) (p : Meaning A) → Lawful k p → Lawful k (from_size_meaning k m p)
   from_size_lawful m p lp = chosen p (zero_meaning k) (λ v cells. nat_le m (length (ids v))) lp zero_lawful (λ v cells again e f. refl)
-
-  pub stacks_lawful : StacksLawful k
-  stacks_lawful (alone p) h = h
-  stacks_lawful (greater s t) h = greater_lawful (stack_meaning k s) (stack_meaning k t) (stacks_lawful s h.0) (stacks_lawful t h.1)
-  stacks_lawful (from_size m s) h = from_size_lawful m (stack_meaning k s) (stacks_lawful s h)

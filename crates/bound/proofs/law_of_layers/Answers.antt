@@ -1,4 +1,4 @@
-use Rattle.bound.specs.Stacked.{stacks_lawful}
+use Rattle.bound.proofs.Stacks.{stacks_lawful}
 use Rattle.bound.proofs.law_of_layers.Goals as goal
 
 pub returns : goal.returns
