@@ -10,14 +10,16 @@ pub loop-place-init : goal.loop-place-init
 loop-place-init g c = load_starts g.A.Amount.kind (job_of c.args.parts c.args.square.now []) c.args.cells.now
 
 -- a place of the square, by its row and its column
-inside : (n m len size : ℕ) → 1 ≤ n → m < size → size ≡ n * n → (2 * n - 1) * (2 * n - 1) ≤ len → ((2 * n - 1) * (2 * n - 1) ≤ len) × ((m / n < 2 * n - 1) × (m % n < 2 * n - 1))
+inside : (n m len size : ℕ) → 1 ≤ n → m < size → size ≡ n * n → (2 * n - 1) * (2 * n - 1) ≤ len → ((2 * n - 1) * (2 * n - 1) ≤ len) × ((m / n < n) × (m % n < n))
 inside n m len size some h e room =
     let row : m / n < n = div_below m n n (omega arith) (omega arith) in
     let column : m % n < n = mod_below m n (omega arith) in
-    (room, (omega arith, omega arith))
+    (room, (row, column))
 
 pub put-requires : goal.put-requires
-put-requires g c = inside c.args.parts c.loop-place.place (length c.loop-place.cells) (length c.args.square.now) (omega arith) (omega arith) (omega arith) (omega arith)
+put-requires g c =
+    let h = inside c.args.parts c.loop-place.place (length c.loop-place.cells) (length c.args.square.now) (omega arith) (omega arith) (omega arith) (omega arith) in
+    (h.0, (omega (arith, h.1.0, h.1.1), omega (arith, h.1.0, h.1.1)))
 
 pub loop-place-preserved : goal.loop-place-preserved
 loop-place-preserved g c =
@@ -27,7 +29,7 @@ loop-place-preserved g c =
     let read : c.index-square-place.result ≡ get_or c.args.square.now c.loop-place.place k.zero = get_or_read c.args.square.now c.loop-place.place c.index-square-place.result c.loop-place-test.true c.index-square-place.is k.zero in
     c.put.ensures
     ∙ ap₂ (λ l x. set l (c.loop-place.place / c.args.parts * (2 * c.args.parts - 1) + c.loop-place.place % c.args.parts) x) c.loop-place.invariant read
-    ∙ load_written k job c.args.cells.now c.loop-place.place (omega arith) (omega arith) (place (2 * c.args.parts - 1) _ _ (length c.args.cells.now) h.0 h.1.0 h.1.1)
+    ∙ load_written k job c.args.cells.now c.loop-place.place (omega arith) (omega arith) (place (2 * c.args.parts - 1) _ _ (length c.args.cells.now) h.0 (omega (arith, h.1.0)) (omega (arith, h.1.1)))
 
 pub returns : goal.returns
 returns g c =

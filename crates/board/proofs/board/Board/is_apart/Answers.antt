@@ -1,4 +1,4 @@
-use Rattle.std.proofs.Common.{sym, ◌∙◌}
+use Rattle.std.proofs.Common.{sym, ◌∙◌, arith}
 use Rattle.std.proofs.lemmas.Bool.{and_parts, and_left}
 use Rattle.board.specs.State.{is_aside, view_of}
 use Rattle.board.proofs.Back.{live_in}
@@ -8,7 +8,9 @@ use Rattle.board.proofs.board.Board.is_apart.Goals as goal
 pub is_aside-requires : goal.is_aside-requires
 is_aside-requires c =
     let h = and_parts _ _ (sym c.if-are_live.ensures) in
-    (live_in _ c.args.self.now.past c.args.i h.0, live_in _ c.args.self.now.past c.args.j h.1)
+    let i_in = live_in _ c.args.self.now.past c.args.i h.0 in
+    let j_in = live_in _ c.args.self.now.past c.args.j h.1 in
+    (omega (arith, i_in, j_in), omega (arith, i_in, j_in))
 
 pub returns-then-are_live : goal.returns-then-are_live
 returns-then-are_live c =

@@ -1,8 +1,9 @@
+use Rattle.std.proofs.Common.{arith}
 use Rattle.board.proofs.Back.{live_counted}
 use Rattle.board.proofs.board.Board.live_count.Goals as goal
 
 pub overflow_sub-result : goal.overflow_sub-result
-overflow_sub-result c = (live_counted c.args.self.now.state c.args.self.now.past).0
+overflow_sub-result c = omega (arith, (live_counted c.args.self.now.state c.args.self.now.past).0)
 
 pub returns : goal.returns
 returns c = (live_counted c.args.self.now.state c.args.self.now.past).1

@@ -24,7 +24,7 @@ pub put-requires-then-is_other : goal.put-requires-then-is_other
 put-requires-then-is_other g c =
     let past = c.args.self.now.past in
     let h = inside _ _ _ (length c.args.cells.now) _ _ _ (made_is _ past) c.width-width.ensures (next_fits _ past _ _ c.requires.1) c.requires.0 (c.put.auto.cells ∙ c.loop-w.auto.cells) c.loop-w-test.true in
-    (h.0, (h.1.1, h.1.0))
+    (h.0, (omega (arith, h.1.0, h.1.1), omega (arith, h.1.0, h.1.1)))
 
 pub loop-w-preserved : goal.loop-w-preserved
 loop-w-preserved g c =
