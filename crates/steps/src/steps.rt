@@ -23,8 +23,8 @@ fn tell_join(
     match answer {
         Ok(made) => {
             let (id, booked) = made;
-            let text = booked.value();
-            println!(rt; "  {what}: makes id {id}, books {text}")?;
+            let amount = booked.value();
+            println!(rt; "  {what}: makes id {id}, books {amount}")?;
         }
         Err(refusal) => {
             let number = refusal.number();
@@ -42,8 +42,8 @@ fn tell_separation(
 ) -> anyhow::Result<()> {
     match answer {
         Ok(booked) => {
-            let text = booked.value();
-            println!(rt; "  {what}: books {text}")?;
+            let amount = booked.value();
+            println!(rt; "  {what}: books {amount}")?;
         }
         Err(refusal) => {
             let number = refusal.number();
