@@ -6,7 +6,7 @@ use Rattle.std.proofs.lemmas.List.{map_push, append-nil}
 use Rattle.std.proofs.lemmas.List.Sums.{fold_push}
 use Rattle.amount.specs.Kind.{Kind}
 use Rattle.amount.specs.Totals.{total}
-use Rattle.job.proofs.Pairs.{counting_more}
+use Rattle.job.proofs.Rows.{counting_more}
 use Rattle.view.proofs.Choose.{kept_yes, kept_no}
 
 module _ (p : ℕ → Bool) (w : ℕ) where

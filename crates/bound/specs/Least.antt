@@ -10,7 +10,7 @@ use Rattle.amount.specs.Totals.{total, spans}
 use Rattle.amount.proofs.Order.{irreflexive, not_both, at_most_itself}
 use Rattle.amount.proofs.Signs.{opposite_negative}
 use Rattle.amount.proofs.Totals.{total_map_at_most}
-use Rattle.job.specs.Cost.{pairs}
+use Rattle.job.specs.Tests.{pairs}
 use Rattle.job.specs.Job.{Job}
 use Rattle.view.specs.Law.{Kept, pair_count}
 use Rattle.view.specs.Reached.{Reached}

@@ -10,8 +10,9 @@ use Rattle.amount.proofs.Totals.{spans_map_le}
 use Rattle.amount.proofs.Signs.{span_positive_part, span_negative_part}
 use Rattle.job.specs.Job.{Job, amount_at, marked, max_parts, max_span, Narrow}
 use Rattle.job.specs.Grouping.{together}
-use Rattle.job.specs.Cost.{row, pairs, separating_term, joining_term, separating_charge, joining_charge, ExactCost}
-use Rattle.job.proofs.Pairs.{pairs_more}
+use Rattle.job.specs.Tests.{row, pairs}
+use Rattle.job.specs.Cost.{separating_term, joining_term, separating_charge, joining_charge, ExactCost}
+use Rattle.job.proofs.Rows.{pairs_more}
 
 -- at most m pairs for each of n rows
 length_pairs : (n m : ℕ) → n ≤ m → length (pairs n) ≤ n * m

@@ -1,4 +1,5 @@
 pub mod Every
-pub mod Pairs
+pub mod Rows
+pub mod Walks
 pub mod Told
 pub mod Exact

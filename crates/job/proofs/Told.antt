@@ -1,11 +1,13 @@
 -- What the tests of a job and of a grouping tell, and so what each answer tells.
-use Rattle.std.proofs.Common.{◌≡◌, ℕ, ◌*◌, ◌<◌, ◌≤◌, Bool, true, false, not, ◌&&◌, ◌||◌, eqb, leb, ◌⊎◌, List, length, get_or, Some, None, Ok, Err, Decides, Option, Result, sym, refl, ap, ◌∙◌, subst, inl, inr, arith}
-use Rattle.std.proofs.lemmas.Bool.{leb-true, le-leb, cases_eq, cases_order, both_ways, true≢false, false≢true}
-use Rattle.std.proofs.lemmas.Bool.Decides.{Decides-and, Decides-or, Decides-not, Decides-eqb, Decides-like, not_from_Decides}
+use Rattle.std.proofs.Common.{◌≡◌, ℕ, ◌*◌, ◌<◌, ◌≤◌, Bool, true, false, not, ◌&&◌, eqb, leb, ◌⊎◌, List, length, Some, None, Ok, Err, Decides, Option, Result, sym, refl, ap, ◌∙◌, subst, inl, inr, arith}
+use Rattle.std.proofs.lemmas.Bool.{leb-true, le-leb, cases_order, both_ways, true≢false, false≢true}
+use Rattle.std.specs.List.{All}
+use Rattle.std.proofs.lemmas.List.Elements.{All-get_or, All-from_get_or}
+use Rattle.std.proofs.lemmas.Bool.Decides.{Decides-by_and, Decides-and, Decides-not, Decides-eqb, Decides-like, not_from_Decides}
 use Rattle.amount.specs.Kind.{Kind, Laws}
 use Rattle.amount.proofs.Order.{same_is}
 use Rattle.job.specs.Tests.{alike, refuse_unless, refuse_or}
-use Rattle.job.specs.Job.{Job, amount_at, marked, max_span, max_parts, Within, Sized, Mirrored, Narrow, Sound, is_within, is_sized, is_mirrored_at, is_mirrored, is_narrow}
+use Rattle.job.specs.Job.{Job, amount_at, marked, max_span, max_parts, Within, Sized, Mirrored, Narrow, Sound, is_within, is_sized, is_twin, is_blank, is_mirrored, is_narrow}
 use Rattle.job.specs.Grouping.{Grouping, Respects, label, together, is_label, is_grouping, is_respectful}
 use Rattle.job.specs.Cost.{cost}
 use Rattle.job.specs.Answers.{checked, priced, refused_with, FirstBroken, job_rules, cost_rules}
@@ -14,7 +16,7 @@ use Rattle.job.specs.declared.JobRefusal.{JobRefusal}
 use Rattle.job.specs.declared.JobRefusal.TheVariants.{PartCount, WrongSize, Lopsided, TooWide}
 use Rattle.job.specs.declared.CostRefusal.{CostRefusal}
 use Rattle.job.specs.declared.CostRefusal.TheVariants as pricing
-use Rattle.job.proofs.Every.{every_tells}
+use Rattle.job.proofs.Every.{every_tells, every_pair_tells}
 
 pub leb_tells : (a b : ℕ) → Decides (leb a b) (a ≤ b)
 leb_tells a b = (leb-true a b, le-leb a b)
@@ -28,21 +30,6 @@ alike_tells false false = (λ _. refl, λ _. refl)
 pub not_tells : (m : Bool) → Decides (not m) (m ≡ false)
 not_tells true = (λ e. absurd (false≢true e), λ e. absurd (true≢false e))
 not_tells false = (λ _. refl, λ _. refl)
-
--- a test that is asked only where i is j
-pub where_same : {P : Type 0} (i j : ℕ) (t : Bool) → Decides t P → Decides (not (eqb i j) || t) (i ≡ j → P)
-where_same {P} i j t d = Decides-like (not (eqb i j) || t) to from (Decides-or (not (eqb i j)) t (Decides-not (eqb i j) (Decides-eqb i j)) d)
-  where
-    to : (i ≡ j → ⊥) ⊎ P → i ≡ j → P
-    to (inl n) e = absurd (n e)
-    to (inr p) e = p
-
-    pick : (i ≡ j → P) → (i ≡ j) ⊎ (i ≡ j → ⊥) → (i ≡ j → ⊥) ⊎ P
-    pick h (inl e) = inr (h e)
-    pick h (inr n) = inl n
-
-    from : (i ≡ j → P) → (i ≡ j → ⊥) ⊎ P
-    from h = pick h (cases_eq i j)
 
 -- a test that denies two at once
 pub not_both_tells : {P Q : Type 0} (a b : Bool) → Decides a P → Decides b Q → Decides (not (a && b)) (P → Q → ⊥)
@@ -59,8 +46,8 @@ grouping_tells n labels counted = Decides-like (is_grouping n labels) to from (e
     from g p l = (g.smallest p p l l refl, g.inside p l)
 
 -- with marks on both sides of the diagonal and none on it, pairs with i below j are all
-pub respect_tells : {A : Type 0} (k : Kind A) (job : Job A) (labels : List ℕ) → Mirrored k job → Decides (is_respectful job.parts job.marks labels) (Respects job labels)
-respect_tells {A} k job labels mirrored = Decides-like (is_respectful job.parts job.marks labels) to from (every_tells _ _ (λ j. every_tells _ _ (λ i. not_both_tells (marked job i j) (together labels i j) ((λ e. e), (λ e. e)) (Decides-eqb (label labels i) (label labels j))) j) job.parts)
+pub respect_tells : {A : Type 0} (k : Kind A) (job : Job A) (labels : List ℕ) → Mirrored k job → Decides (is_respectful job labels) (Respects job labels)
+respect_tells {A} k job labels mirrored = Decides-like (is_respectful job labels) to from (every_pair_tells _ _ (λ i j. not_both_tells (marked job i j) (together labels i j) ((λ e. e), (λ e. e)) (Decides-eqb (label labels i) (label labels j))) job.parts)
   where
     pick : ((j : ℕ) → j < job.parts → (i : ℕ) → i < j → marked job i j ≡ true → label labels i ≡ label labels j → ⊥) → (i j : ℕ) → i < job.parts → j < job.parts → marked job i j ≡ true → label labels i ≡ label labels j → (i ≡ j) ⊎ ((i < j) ⊎ (j < i)) → ⊥
     pick h i j p q m s (inl e) = both_ways (marked job i i) (mirrored.marks_diagonal i p) (ap (marked job i) e ∙ m)
@@ -80,36 +67,44 @@ module _ {A : Type 0} (k : Kind A) (laws : Laws k) (job : Job A) where
   pub sized_tells : Decides (is_sized job) (Sized job)
   sized_tells = Decides-and (eqb (length job.square) (job.parts * job.parts)) (eqb (length job.marks) (job.parts * job.parts)) (Decides-eqb _ _) (Decides-eqb _ _)
 
-  abbrev MirroredAt : ℕ → ℕ → Type 0
-  MirroredAt i j = ((amount_at k job i j ≡ amount_at k job j i) × (marked job i j ≡ marked job j i)) × (i ≡ j → (amount_at k job i j ≡ k.zero) × (marked job i j ≡ false))
+  abbrev Twin : ℕ → ℕ → Type 0
+  Twin i j = (amount_at k job i j ≡ amount_at k job j i) × (marked job i j ≡ marked job j i)
 
-  mirrored_at_tells : (i j : ℕ) → Decides (is_mirrored_at k job i j) (MirroredAt i j)
-  mirrored_at_tells i j =
-      let a = same_is k laws (amount_at k job i j) (amount_at k job j i) in
-      let b = alike_tells (marked job i j) (marked job j i) in
-      let c = same_is k laws (amount_at k job i j) k.zero in
-      let d = not_tells (marked job i j) in
-      Decides-and _ _ (Decides-and _ _ a b) (where_same i j _ (Decides-and _ _ c d))
+  abbrev Blank : ℕ → Type 0
+  Blank i = (amount_at k job i i ≡ k.zero) × (marked job i i ≡ false)
 
   pub mirrored_tells : Decides (is_mirrored k job) (Mirrored k job)
-  mirrored_tells = Decides-like (is_mirrored k job) to from (every_tells _ _ (λ i. every_tells _ _ (mirrored_at_tells i) job.parts) job.parts)
+  mirrored_tells = Decides-like (is_mirrored k job) to from (Decides-and _ _
+      (every_pair_tells (is_twin k job) Twin (λ i j. Decides-and _ _ (same_is k laws (amount_at k job i j) (amount_at k job j i)) (alike_tells (marked job i j) (marked job j i))) job.parts)
+      (every_tells (is_blank k job) Blank (λ i. Decides-and _ _ (same_is k laws (amount_at k job i i) k.zero) (not_tells (marked job i i))) job.parts))
     where
-      to : ((i : ℕ) → i < job.parts → (j : ℕ) → j < job.parts → MirroredAt i j) → Mirrored k job
+      pick : ((j : ℕ) → j < job.parts → (i : ℕ) → i < j → Twin i j) → (i j : ℕ) → i < job.parts → j < job.parts → (i ≡ j) ⊎ ((i < j) ⊎ (j < i)) → Twin i j
+      pick h i j p q (inl e) = (ap (λ m. amount_at k job m j) e ∙ ap (amount_at k job j) (sym e), ap (λ m. marked job m j) e ∙ ap (marked job j) (sym e))
+      pick h i j p q (inr (inl l)) = h j q i l
+      pick h i j p q (inr (inr l)) = (sym (h i p j l).0, sym (h i p j l).1)
+
+      to : ((j : ℕ) → j < job.parts → (i : ℕ) → i < j → Twin i j) × ((i : ℕ) → i < job.parts → Blank i) → Mirrored k job
       to h = record {
-        square_symmetric = λ i j p q. (h i p j q).0.0;
-        square_diagonal = λ i p. ((h i p i p).1 refl).0;
-        marks_symmetric = λ i j p q. (h i p j q).0.1;
-        marks_diagonal = λ i p. ((h i p i p).1 refl).1;
+        square_symmetric = λ i j p q. (pick h.0 i j p q (cases_order i j)).0;
+        square_diagonal = λ i p. (h.1 i p).0;
+        marks_symmetric = λ i j p q. (pick h.0 i j p q (cases_order i j)).1;
+        marks_diagonal = λ i p. (h.1 i p).1;
       }
 
-      from : Mirrored k job → (i : ℕ) → i < job.parts → (j : ℕ) → j < job.parts → MirroredAt i j
-      from e i p j q = ((e.square_symmetric i j p q, e.marks_symmetric i j p q), λ s. (ap (amount_at k job i) (sym s) ∙ e.square_diagonal i p, ap (marked job i) (sym s) ∙ e.marks_diagonal i p))
+      from : Mirrored k job → ((j : ℕ) → j < job.parts → (i : ℕ) → i < j → Twin i j) × ((i : ℕ) → i < job.parts → Blank i)
+      from e = (λ j q i l. (e.square_symmetric i j (omega arith) q, e.marks_symmetric i j (omega arith) q), λ i p. (e.square_diagonal i p, e.marks_diagonal i p))
 
   pub mirrored_told : is_mirrored k job ≡ true → Mirrored k job
   mirrored_told = mirrored_tells.0
 
   pub narrow_tells : Decides (is_narrow k job.square) (Narrow k job.square)
-  narrow_tells = every_tells _ _ (λ c. leb_tells (k.span (get_or job.square c k.zero)) max_span) (length job.square)
+  narrow_tells = Decides-like (is_narrow k job.square) to from (Decides-by_and (λ x. leb (k.span x) max_span) (λ x. k.span x ≤ max_span) (is_narrow k) (λ x. leb_tells (k.span x) max_span) refl (λ _ _. refl) job.square)
+    where
+      to : All (λ x. k.span x ≤ max_span) job.square → Narrow k job.square
+      to h c l = All-get_or (λ x. k.span x ≤ max_span) job.square c k.zero l h
+
+      from : Narrow k job.square → All (λ x. k.span x ≤ max_span) job.square
+      from h = All-from_get_or (λ x. k.span x ≤ max_span) job.square k.zero h
 
   -- every rule kept makes a sound job
   pub sound_from : FirstBroken (job_rules k job) None → Sound k job
@@ -150,8 +145,8 @@ module _ {A : Type 0} (k : Kind A) (laws : Laws k) (job : Job A) where
         rest h true true false p q r = inr (h.0, inr (h.1.0, inr (h.1.1.0, inr (h.1.1.1.0, inr (p.0 refl, inr ((q (p.0 refl)).0 refl, inl (not_from_Decides false r refl, refl)))))))
         rest h true true true p q r = (h.0, (h.1.0, (h.1.1.0, (h.1.1.1.0, (p.0 refl, ((q (p.0 refl)).0 refl, (r.0 refl, tt)))))))
 
-        first : (r : Result (Unit {0}) JobRefusal) → FirstBroken (job_rules k job) (refused_with job_number r) → Told (refused_with cost_number (refuse_or pricing.Job r (refuse_unless (eqb (length labels) job.parts) pricing.LabelCount (refuse_unless (is_grouping job.parts labels) pricing.NotGrouping (refuse_unless (is_respectful job.parts job.marks labels) pricing.Marked (Ok (cost k job labels)))))))
-        first (Ok _) h = rest h (eqb (length labels) job.parts) (is_grouping job.parts labels) (is_respectful job.parts job.marks labels) (Decides-eqb _ _) (grouping_tells job.parts labels) (respect_tells k job labels h.1.1.0)
+        first : (r : Result (Unit {0}) JobRefusal) → FirstBroken (job_rules k job) (refused_with job_number r) → Told (refused_with cost_number (refuse_or pricing.Job r (refuse_unless (eqb (length labels) job.parts) pricing.LabelCount (refuse_unless (is_grouping job.parts labels) pricing.NotGrouping (refuse_unless (is_respectful job labels) pricing.Marked (Ok (cost k job labels)))))))
+        first (Ok _) h = rest h (eqb (length labels) job.parts) (is_grouping job.parts labels) (is_respectful job labels) (Decides-eqb _ _) (grouping_tells job.parts labels) (respect_tells k job labels h.1.1.0)
         first (Err refusal) h = broken_first (job_number refusal) h
 
     pub price_told : (r : Result A CostRefusal) → r ≡ priced k job labels → Told (refused_with cost_number r)

@@ -32,7 +32,7 @@ priced k job labels =
     refuse_or pricing.Job (checked k job)
     (refuse_unless (length labels == job.parts) pricing.LabelCount
     (refuse_unless (is_grouping job.parts labels) pricing.NotGrouping
-    (refuse_unless (is_respectful job.parts job.marks labels) pricing.Marked
+    (refuse_unless (is_respectful job labels) pricing.Marked
     (Ok (cost k job labels)))))
 
 -- the number that an answer refuses with, if it refuses

@@ -1,34 +1,26 @@
 -- The cost of a grouping: that of weighted cluster editing, over the pairs that are not marked.
-use Rattle.std.specs.Prelude.{◌≡◌, ℕ, ◌+◌, ◌≤◌, Bool, cond, List, map}
-use Rattle.std.specs.List.{range_with_len, flat_map}
+use Rattle.std.specs.Prelude.{if◌then◌else◌, ◌≡◌, ℕ, ◌+◌, ◌≤◌, Bool, List, map}
 use Rattle.amount.specs.Kind.{Kind, span_limit, AtMost}
 use Rattle.amount.specs.Signs.{positive_part, negative_part}
 use Rattle.amount.specs.Totals.{total, spans}
 use Rattle.job.specs.Job.{Job, amount_at, marked}
 use Rattle.job.specs.Grouping.{Grouping, Respects, together}
-
--- the pairs of j with each part below it
-abbrev pub row : ℕ → List (ℕ × ℕ)
-row j = map (λ i. (i, j)) (range_with_len 0 j)
-
--- all pairs i, j with i below j, row by row
-abbrev pub pairs : ℕ → List (ℕ × ℕ)
-pairs n = flat_map row (range_with_len 0 n)
+use Rattle.job.specs.Tests.{pairs}
 
 -- what a pair costs for being in different groups: its amount if positive
 abbrev pub separating_term : {A : Type 0} → Kind A → Bool → A → A
-separating_term k shared x = cond shared k.zero (positive_part k x)
+separating_term k shared x = if shared then k.zero else positive_part k x
 
 -- what a pair costs for sharing a group: its absolute amount if negative
 abbrev pub joining_term : {A : Type 0} → Kind A → Bool → A → A
-joining_term k shared x = cond shared (negative_part k x) k.zero
+joining_term k shared x = if shared then negative_part k x else k.zero
 
 -- the same of a pair of parts; a marked pair costs nothing
 abbrev pub separating_charge : {A : Type 0} → Kind A → Job A → List ℕ → ℕ × ℕ → A
-separating_charge k job labels p = cond (marked job p.0 p.1) k.zero (separating_term k (together labels p.0 p.1) (amount_at k job p.0 p.1))
+separating_charge k job labels p = if marked job p.0 p.1 then k.zero else separating_term k (together labels p.0 p.1) (amount_at k job p.0 p.1)
 
 abbrev pub joining_charge : {A : Type 0} → Kind A → Job A → List ℕ → ℕ × ℕ → A
-joining_charge k job labels p = cond (marked job p.0 p.1) k.zero (joining_term k (together labels p.0 p.1) (amount_at k job p.0 p.1))
+joining_charge k job labels p = if marked job p.0 p.1 then k.zero else joining_term k (together labels p.0 p.1) (amount_at k job p.0 p.1)
 
 -- the positive amounts between groups
 abbrev pub separating : {A : Type 0} → Kind A → Job A → List ℕ → A

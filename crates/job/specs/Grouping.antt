@@ -1,7 +1,7 @@
 -- A grouping of the parts: a label for each part, the smallest part of its group. In the literature a clustering.
 use Rattle.std.specs.Prelude.{◌≡◌, ℕ, ◌<◌, ◌≤◌, Bool, true, not, ◌&&◌, List, length, ◌==◌, ◌≢◌, nat_le, slice_index}
-use Rattle.job.specs.Tests.{every}
-use Rattle.job.specs.Job.{Job, mark_at, marked}
+use Rattle.job.specs.Tests.{every, every_pair}
+use Rattle.job.specs.Job.{Job, marked}
 
 abbrev pub label : List ℕ → ℕ → ℕ
 label labels p = slice_index labels p
@@ -29,8 +29,8 @@ abbrev pub is_grouping : ℕ → List ℕ → Bool
 is_grouping n labels = every n (is_label labels)
 
 -- the pair i, j is marked and shares a group
-abbrev pub is_clash : ℕ → List Bool → List ℕ → ℕ → ℕ → Bool
-is_clash n marks labels i j = mark_at n marks i j && together labels i j
+abbrev pub is_clash : {A : Type 0} → Job A → List ℕ → ℕ → ℕ → Bool
+is_clash job labels i j = marked job i j && together labels i j
 
-abbrev pub is_respectful : ℕ → List Bool → List ℕ → Bool
-is_respectful n marks labels = every n (λ j. every j (λ i. not (is_clash n marks labels i j)))
+abbrev pub is_respectful : {A : Type 0} → Job A → List ℕ → Bool
+is_respectful job labels = every_pair job.parts (λ i j. not (is_clash job labels i j))

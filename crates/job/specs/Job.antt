@@ -1,18 +1,16 @@
 -- A job: parts numbered from 0, an amount for each pair, and marks on the pairs that must be apart.
 -- In the literature an edge-weighted graph with forbidden edges.
-use Rattle.std.specs.Prelude.{◌≡◌, ℕ, ◌+◌, ◌*◌, ◌<◌, ◌≤◌, Bool, false, not, ◌&&◌, ◌||◌, leb, List, length, ◌==◌, nat_le, slice_index_or}
+use Rattle.std.specs.Prelude.{◌≡◌, ℕ, ◌+◌, ◌*◌, ◌<◌, ◌≤◌, Bool, false, not, ◌&&◌, List, length, ◌==◌, nat_le, slice_index_or}
 use Rattle.amount.specs.Kind.{Kind}
 use Rattle.amount.specs.Signs.{same}
-use Rattle.job.specs.Tests.{every, alike}
+use Rattle.std.specs.List.{list_all}
+use Rattle.job.specs.Tests.{every, every_pair, alike}
 
 -- the square and the marks are written row by row
 pub record Job (A : Type 0) : Type 0 where
   pub parts : ℕ
   pub square : List A
   pub marks : List Bool
-
-abbrev pub job_of : {A : Type 0} → ℕ → List A → List Bool → Job A
-job_of n square marks = record { parts = n; square = square; marks = marks }
 
 -- the most parts of a job
 abbrev pub max_parts : ℕ
@@ -71,15 +69,12 @@ is_sized job = length job.square == job.parts * job.parts && length job.marks ==
 abbrev pub is_twin : {A : Type 0} → Kind A → Job A → ℕ → ℕ → Bool
 is_twin k job i j = same k (amount_at k job i j) (amount_at k job j i) && alike (marked job i j) (marked job j i)
 
--- the cells i, j hold nothing
-abbrev pub is_blank : {A : Type 0} → Kind A → Job A → ℕ → ℕ → Bool
-is_blank k job i j = same k (amount_at k job i j) k.zero && not (marked job i j)
-
-abbrev pub is_mirrored_at : {A : Type 0} → Kind A → Job A → ℕ → ℕ → Bool
-is_mirrored_at k job i j = is_twin k job i j && (not (i == j) || is_blank k job i j)
+-- the cells i, i hold nothing
+abbrev pub is_blank : {A : Type 0} → Kind A → Job A → ℕ → Bool
+is_blank k job i = same k (amount_at k job i i) k.zero && not (marked job i i)
 
 abbrev pub is_mirrored : {A : Type 0} → Kind A → Job A → Bool
-is_mirrored k job = every job.parts (λ i. every job.parts (is_mirrored_at k job i))
+is_mirrored k job = every_pair job.parts (is_twin k job) && every job.parts (is_blank k job)
 
 abbrev pub is_narrow : {A : Type 0} → Kind A → List A → Bool
-is_narrow k square = every (length square) (λ c. leb (k.span (slice_index_or square c k.zero)) max_span)
+is_narrow k square = list_all (λ x. nat_le (k.span x) max_span) square

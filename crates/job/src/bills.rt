@@ -1,9 +1,7 @@
 // What a grouping costs, in two totals.
-ghost use Rattle.std.specs.Prelude.{◌≡◌, ◌<◌, map, length, fold};
-ghost use Rattle.job.specs.Job.{job_of, Sized};
-ghost use Rattle.job.specs.Cost.{row, separating_term, joining_term, separating_charge, joining_charge, separating, joining};
+ghost use Rattle.std.specs.Prelude.{◌≡◌};
+ghost use Rattle.job.specs.Cost.{separating_term, joining_term};
 
-use crate::cells::cell;
 use amount::Amount;
 
 // What is paid for pairs in different groups, and for pairs that share one.
@@ -63,66 +61,4 @@ impl<A: Amount> Bill<A> {
     {
         self.separating.sum(self.joining)
     }
-}
-
-// The bill of one pair.
-fn charge<A: Amount>(
-    parts: usize,
-    square: &[A],
-    marks: &[bool],
-    labels: &[usize],
-    i: usize,
-    j: usize,
-) -> Bill<A>
-    requires { (Sized (job_of parts square.now marks.now)) × ((length labels.now ≡ parts) × ((i < parts) × (j < parts))) }
-    ensures separating { result.separating ≡ separating_charge A.Amount.kind (job_of parts square.now marks.now) labels.now (i, j) }
-    ensures joining { result.joining ≡ joining_charge A.Amount.kind (job_of parts square.now marks.now) labels.now (i, j) }
-{
-    if cell(parts, marks, i, j) {
-        return Bill::default();
-    }
-    let amount = cell(parts, square, i, j);
-    if labels[i] == labels[j] {
-        Bill::of_pair(true, amount)
-    } else {
-        Bill::of_pair(false, amount)
-    }
-}
-
-// The bill so far, with the pairs i, j for each i below j.
-fn add_row<A: Amount>(
-    so_far: Bill<A>,
-    parts: usize,
-    square: &[A],
-    marks: &[bool],
-    labels: &[usize],
-    j: usize,
-) -> Bill<A>
-    requires { (Sized (job_of parts square.now marks.now)) × ((length labels.now ≡ parts) × (j < parts)) }
-    ensures separating { result.separating ≡ fold A.Amount.kind.sum so_far.separating (map (separating_charge A.Amount.kind (job_of parts square.now marks.now) labels.now) (row j)) }
-    ensures joining { result.joining ≡ fold A.Amount.kind.sum so_far.joining (map (joining_charge A.Amount.kind (job_of parts square.now marks.now) labels.now) (row j)) }
-{
-    let mut bill = so_far;
-    for i in 0..j {
-        bill = bill.plus(charge(parts, square, marks, labels, i, j));
-    }
-    bill
-}
-
-// The bill of all pairs.
-pub(crate) fn bill_of<A: Amount>(
-    parts: usize,
-    square: &[A],
-    marks: &[bool],
-    labels: &[usize],
-) -> Bill<A>
-    requires { (Sized (job_of parts square.now marks.now)) × (length labels.now ≡ parts) }
-    ensures separating { result.separating ≡ separating A.Amount.kind (job_of parts square.now marks.now) labels.now }
-    ensures joining { result.joining ≡ joining A.Amount.kind (job_of parts square.now marks.now) labels.now }
-{
-    let mut bill = Bill::default();
-    for j in 0..parts {
-        bill = add_row(bill, parts, square, marks, labels, j);
-    }
-    bill
 }

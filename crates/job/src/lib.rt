@@ -1,23 +1,24 @@
 // Jobs, groupings of their parts, and what a grouping costs.
 #![tactic(auto)]
 
-ghost use Rattle.std.specs.Prelude.{◌≡◌, true, is_ok, Some};
-ghost use Rattle.job.specs.Answers.{sizes_checked, checked, priced, refused_with, FirstBroken, size_rules, job_rules, cost_rules};
-ghost use Rattle.job.specs.Cost.{ExactCost};
-ghost use Rattle.job.specs.Job.{job_of};
+ghost use Rattle.std.specs.Prelude.{◌≡◌, Some};
 ghost use Rattle.job.specs.Refusals.{job_number, job_text, cost_number, cost_text};
 ghost use Rattle.job.specs.declared.CostRefusal.TheVariants.{Job};
 
-use amount::Amount;
 use std::error::Error;
 use std::fmt;
 
 mod bills;
 mod cells;
 mod groups;
+mod lent;
+mod pairs;
 
 pub use bills::Bill;
-pub use groups::is_grouping;
+pub use cells::cell;
+pub use groups::{is_grouping, label, share_group};
+pub use lent::Job;
+pub use pairs::Pairs;
 
 // The most parts of a job.
 pub const MAX_PARTS: usize = 32;
@@ -129,57 +130,3 @@ impl fmt::Display for CostRefusal {
 }
 
 impl Error for CostRefusal {}
-
-// The first part of the check of a job: how many parts there are, and how long square and marks are. It writes nothing.
-pub fn check_sizes<A: Amount>(parts: usize, square: &[A], marks: &[bool]) -> Result<(), JobRefusal>
-    ensures value { result ≡ sizes_checked (job_of parts square.now marks.now) }
-    ensures tells { FirstBroken (size_rules (job_of parts square.now marks.now)) (refused_with job_number result) }
-{
-    if parts < 1 || parts > MAX_PARTS {
-        return Err(JobRefusal::PartCount);
-    }
-    if square.len() != parts * parts || marks.len() != parts * parts {
-        return Err(JobRefusal::WrongSize);
-    }
-    Ok(())
-}
-
-// The check of a job: it writes nothing.
-pub fn check<A: Amount>(parts: usize, square: &[A], marks: &[bool]) -> Result<(), JobRefusal>
-    ensures value { result ≡ checked A.Amount.kind (job_of parts square.now marks.now) }
-    ensures tells { FirstBroken (job_rules A.Amount.kind (job_of parts square.now marks.now)) (refused_with job_number result) }
-{
-    check_sizes(parts, square, marks)?;
-    if !cells::is_mirrored(parts, square, marks) {
-        return Err(JobRefusal::Lopsided);
-    }
-    if !cells::is_narrow(square) {
-        return Err(JobRefusal::TooWide);
-    }
-    Ok(())
-}
-
-// The cost of a grouping: the positive amounts between groups plus the absolute negative ones inside.
-pub fn cost<A: Amount>(
-    parts: usize,
-    square: &[A],
-    marks: &[bool],
-    labels: &[usize],
-) -> Result<A, CostRefusal>
-    ensures value { result ≡ priced A.Amount.kind (job_of parts square.now marks.now) labels.now }
-    ensures tells { FirstBroken (cost_rules A.Amount.kind (job_of parts square.now marks.now) labels.now) (refused_with cost_number result) }
-    ensures exact { is_ok result ≡ true → ExactCost A.Amount.kind (job_of parts square.now marks.now) labels.now }
-{
-    check(parts, square, marks)?;
-    if labels.len() != parts {
-        return Err(CostRefusal::LabelCount);
-    }
-    if !groups::is_grouping(labels) {
-        return Err(CostRefusal::NotGrouping);
-    }
-    if !groups::is_respectful(parts, marks, labels) {
-        return Err(CostRefusal::Marked);
-    }
-    let bill = bills::bill_of(parts, square, marks, labels);
-    Ok(bill.separating.sum(bill.joining))
-}

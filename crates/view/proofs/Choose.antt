@@ -7,8 +7,8 @@ use Rattle.std.proofs.lemmas.List.{map-append}
 use Rattle.std.proofs.lemmas.List.Elements.{filter-append}
 use Rattle.std.proofs.ByRecursion.{All-weaker}
 use Rattle.std.proofs.lemmas.Bool.{cond-true, cond-false, cases_eq, cases_Bool, eq-eqb, ne_eqb, and_left, and_right, and_from, not_from_true, not_from_false}
-use Rattle.job.specs.Cost.{row, pairs}
-use Rattle.job.proofs.Pairs.{counting_more, pairs_more}
+use Rattle.job.specs.Tests.{row, pairs}
+use Rattle.job.proofs.Rows.{counting_more, pairs_more}
 use Rattle.view.proofs.Like.{Like, like_nil, like_cons, like_trans, like_blank, like_same, like_append, all_blank, vals, vals_push}
 
 pub kept_yes : (p : ℕ → Bool) (x : ℕ) (xs : List ℕ) → p x ≡ true → filter p (x ∷ xs) ≡ x ∷ filter p xs

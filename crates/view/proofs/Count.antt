@@ -8,8 +8,8 @@ use Rattle.std.proofs.ByRecursion.{All-weaker}
 use Rattle.std.proofs.lemmas.Bool.{cond_both}
 use Rattle.amount.specs.Kind.{Kind, Laws}
 use Rattle.job.specs.Job.{Job, Sound}
-use Rattle.job.specs.Cost.{row, pairs}
-use Rattle.job.proofs.Pairs.{pairs_more}
+use Rattle.job.specs.Tests.{row, pairs}
+use Rattle.job.proofs.Rows.{pairs_more}
 use Rattle.view.specs.View.{View, width, next, is_open}
 use Rattle.view.specs.Steps.{start, is_other, others, joined, separated}
 use Rattle.view.specs.Law.{pair_count, open_count}

@@ -8,7 +8,8 @@ use Rattle.amount.specs.Totals.{total, spans}
 use Rattle.amount.proofs.Totals.{neutral_right, total_map_sum}
 use Rattle.amount.proofs.Signs.{span_positive_part, span_negative_part}
 use Rattle.job.specs.Grouping.{label}
-use Rattle.job.specs.Cost.{pairs, separating_term, joining_term}
+use Rattle.job.specs.Cost.{separating_term, joining_term}
+use Rattle.job.specs.Tests.{pairs}
 use Rattle.view.specs.View.{live_amount, View, width, is_open, amount_in}
 use Rattle.view.specs.Remaining.{share, remaining, first_part}
 use Rattle.view.specs.Good.{Good}

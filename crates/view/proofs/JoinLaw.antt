@@ -8,7 +8,7 @@ use Rattle.amount.specs.Signs.{positive_part, overlap}
 use Rattle.amount.specs.Totals.{total, spans}
 use Rattle.amount.proofs.Totals.{span_total, total_cons, total_append, spans_append, spans_map_sum, total_map_sum}
 use Rattle.amount.proofs.Signs.{span_positive_part, span_negative_part, span_overlap}
-use Rattle.job.specs.Cost.{pairs}
+use Rattle.job.specs.Tests.{pairs}
 use Rattle.view.specs.View.{View, width, next, is_open, Roomy, amount_in}
 use Rattle.view.specs.Steps.{is_other, others, joined, joined_cells, join_own, join_other, join_others, join_booked}
 use Rattle.view.specs.Remaining.{RespectsBoard, share, remaining}

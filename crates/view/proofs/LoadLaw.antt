@@ -8,8 +8,9 @@ use Rattle.amount.specs.Kind.{Kind, Laws, span_limit}
 use Rattle.amount.specs.Totals.{total, spans}
 use Rattle.job.specs.Job.{Job, amount_at, marked, Sound}
 use Rattle.job.specs.Grouping.{label, together}
-use Rattle.job.specs.Cost.{pairs, separating_term, joining_term, cost, ExactCost}
-use Rattle.job.proofs.Pairs.{counting_more}
+use Rattle.job.specs.Cost.{separating_term, joining_term, cost, ExactCost}
+use Rattle.job.specs.Tests.{pairs}
+use Rattle.job.proofs.Rows.{counting_more}
 use Rattle.job.proofs.Exact.{exact_cost}
 use Rattle.view.specs.View.{width, is_open, Roomy, amount_in}
 use Rattle.view.specs.Steps.{start, loaded_cells, load_booked}

@@ -8,7 +8,8 @@ use Rattle.amount.proofs.Totals.{span_total, spans_map_le}
 use Rattle.amount.proofs.Signs.{span_positive_part}
 use Rattle.job.specs.Grouping.{Respects}
 use Rattle.job.specs.Job.{Job, marked, max_span, Sound}
-use Rattle.job.specs.Cost.{pairs, separating_term, joining_term, cost}
+use Rattle.job.specs.Cost.{separating_term, joining_term, cost}
+use Rattle.job.specs.Tests.{pairs}
 use Rattle.job.proofs.Exact.{narrow_at}
 use Rattle.view.specs.View.{View, width, is_open, Roomy, amount_in}
 use Rattle.view.specs.Steps.{start, others, loaded_cells, load_booked, joined, joined_cells, join_booked, separated, separation_booked}

@@ -3,8 +3,8 @@ use Rattle.std.proofs.Common.{◌≡◌, ℕ, ◌<◌, Bool, true, false, not, �
 use Rattle.std.proofs.lemmas.Bool.Decides.{Decides-and, Decides-or, Decides-not, Decides-eqb, Decides-like}
 use Rattle.std.proofs.lemmas.Bool.{cases_Bool, cases_order, cases_eq, eqb-true, and_parts, or_cases, both_ways, and_from, or_left, or_right}
 use Rattle.job.specs.Grouping.{label}
-use Rattle.job.specs.Tests.{every}
-use Rattle.job.proofs.Every.{every_tells}
+use Rattle.job.specs.Tests.{every, every_pair}
+use Rattle.job.proofs.Every.{every_tells, every_pair_tells}
 use Rattle.job.proofs.Told.{not_both_tells}
 use Rattle.view.specs.View.{View, width, next}
 use Rattle.view.specs.Steps.{is_other, joined, separated}
@@ -149,11 +149,11 @@ module _ (v : View) (labels : List ℕ) (g : Good v) where
   whole_tells : (i : ℕ) → Decides (is_whole v labels i) (Whole i)
   whole_tells i = every_tells _ _ (λ p. Decides-or (not (v.holds i p)) (eqb (label labels p) (label labels (first_part v i))) (Decides-not (v.holds i p) (test (v.holds i p))) (Decides-eqb _ _)) v.parts
 
-  apart_tells : Decides (every (width v) (λ j. every j (λ i. not (is_clash v labels i j)))) Apart
-  apart_tells = every_tells _ _ (λ j. every_tells _ _ (λ i. not_both_tells (v.apart i j) (share v labels i j) (test (v.apart i j)) (Decides-eqb _ _)) j) (width v)
+  apart_tells : Decides (every_pair (width v) (λ i j. not (is_clash v labels i j))) Apart
+  apart_tells = every_pair_tells _ _ (λ i j. not_both_tells (v.apart i j) (share v labels i j) (test (v.apart i j)) (Decides-eqb _ _)) (width v)
 
   pub respected_tells : Decides (is_respected v labels) (RespectsBoard v labels)
-  respected_tells = Decides-like (is_respected v labels) to from (Decides-and (every (width v) (is_whole v labels)) (every (width v) (λ j. every j (λ i. not (is_clash v labels i j)))) (every_tells _ _ whole_tells (width v)) apart_tells)
+  respected_tells = Decides-like (is_respected v labels) to from (Decides-and (every (width v) (is_whole v labels)) (every_pair (width v) (λ i j. not (is_clash v labels i j))) (every_tells _ _ whole_tells (width v)) apart_tells)
     where
       -- a part has the label of its id's smallest part
       of_id : ((i : ℕ) → i < width v → Whole i) → (i p : ℕ) → v.holds i p ≡ true → label labels p ≡ label labels (first_part v i)

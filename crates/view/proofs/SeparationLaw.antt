@@ -5,7 +5,7 @@ use Rattle.std.proofs.lemmas.Bool.{cond-false, cases_eq, eq-eqb, ne_eqb, and_lef
 use Rattle.amount.specs.Kind.{Kind, Laws, span_limit}
 use Rattle.amount.specs.Totals.{total, spans}
 use Rattle.amount.proofs.Totals.{total_cons}
-use Rattle.job.specs.Cost.{pairs}
+use Rattle.job.specs.Tests.{pairs}
 use Rattle.view.specs.View.{View, width, is_open, amount_in}
 use Rattle.view.specs.Steps.{is_other, others, separated, separation_booked}
 use Rattle.view.specs.Remaining.{RespectsBoard, first_part, share, remaining}

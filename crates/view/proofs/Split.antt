@@ -4,7 +4,7 @@ use mathlib.Core.List.{Permᴰ}
 use Rattle.std.specs.List.{range_with_len, AllByRecursion}
 use Rattle.std.proofs.ByRecursion.{kept_by_passes}
 use Rattle.std.proofs.lemmas.Bool.{cases_eq, eq-eqb, ne_eqb, and_from, not_from_false, or_right}
-use Rattle.job.specs.Cost.{pairs}
+use Rattle.job.specs.Tests.{pairs}
 use Rattle.view.specs.View.{View, width, ids, next}
 use Rattle.view.specs.Steps.{is_other, others, joined}
 use Rattle.view.proofs.Like.{Like, like_trans, vals, vals_perm}

@@ -5,8 +5,8 @@ use Rattle.std.proofs.ByRecursion.{All-append, All-map, All-weaker}
 use Rattle.std.proofs.lemmas.Bool.{cases_Bool, eq-eqb, eqb-true, and_parts, and_from, and_left, and_right, ltb-true, lt-ltb, cond-true}
 use Rattle.amount.specs.Kind.{Kind}
 use Rattle.job.specs.Job.{Job, amount_at, marked, Sound}
-use Rattle.job.specs.Cost.{row, pairs}
-use Rattle.job.proofs.Pairs.{pairs_more}
+use Rattle.job.specs.Tests.{row, pairs}
+use Rattle.job.proofs.Rows.{pairs_more}
 use Rattle.view.specs.View.{width, Roomy, amount_in}
 use Rattle.view.specs.Steps.{start, loaded_cells}
 use Rattle.view.proofs.Cells.{amount_rewritten}

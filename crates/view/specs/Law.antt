@@ -4,7 +4,8 @@ use Rattle.amount.specs.Kind.{Kind}
 use Rattle.amount.specs.Totals.{spans}
 use Rattle.job.specs.Job.{Job, max_span, Sound}
 use Rattle.job.specs.Grouping.{Grouping, Respects}
-use Rattle.job.specs.Cost.{pairs, cost}
+use Rattle.job.specs.Cost.{cost}
+use Rattle.job.specs.Tests.{pairs}
 use Rattle.view.specs.Good.{Good}
 use Rattle.view.specs.View.{View, width, is_open, amount_in, live_amount, Roomy}
 use Rattle.view.specs.Steps.{start, joined, separated}

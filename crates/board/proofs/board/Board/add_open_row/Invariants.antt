@@ -1,5 +1,5 @@
 use Rattle.std.proofs.Common.{◌≡◌, map, fold}
-use Rattle.job.proofs.Pairs.{row_upto}
+use Rattle.job.proofs.Rows.{row_upto}
 use Rattle.view.specs.Remaining.{open_separating_charge, open_joining_charge}
 use Rattle.board.specs.State.{view_of}
 use Rattle.board.proofs.board.Board.add_open_row.Given as goal

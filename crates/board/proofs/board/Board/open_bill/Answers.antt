@@ -1,4 +1,4 @@
-use Rattle.job.proofs.Pairs.{pairs_step}
+use Rattle.job.proofs.Rows.{pairs_step}
 use Rattle.view.specs.Remaining.{open_separating_charge, open_joining_charge}
 use Rattle.board.specs.State.{view_of}
 use Rattle.board.proofs.board.Board.open_bill.Goals as goal

@@ -1,6 +1,6 @@
 use Rattle.std.proofs.Common.{◌≡◌, map}
 use Rattle.amount.specs.Totals.{total}
-use Rattle.job.specs.Cost.{pairs}
+use Rattle.job.specs.Tests.{pairs}
 use Rattle.view.specs.Remaining.{open_separating_charge, open_joining_charge}
 use Rattle.board.specs.State.{view_of}
 use Rattle.board.proofs.board.Board.open_bill.Given as goal

@@ -1,0 +1,13 @@
+use Rattle.std.proofs.Common.{rules, tests}
+use Rattle.job.specs.Cost.{separating_charge, joining_charge}
+use Rattle.job.specs.Lent.{job_of}
+use Rattle.job.proofs.Walks.{totals_from_fold}
+use Rattle.job.proofs.lent.Job.bill.Goals as goal
+
+pub returns : goal.returns
+returns g c =
+    let k = g.A.Amount.kind in
+    let job = job_of c.args.self.now in
+    let labels = c.args.labels.now in
+    let totals = totals_from_fold k (separating_charge k job labels) (joining_charge k job labels) _ _ c.default.result c.fold.result c.fold.ensures.ran c.below.ensures (λ a x b q h. search (rules, tests)) in
+    record { separating = search rules; joining = search rules }
