@@ -19,7 +19,8 @@ use Rattle.view.proofs.Respect.{respected_tells}
 use Rattle.view.specs.Reached.{Reached, by_join, by_separation}
 use Rattle.view.specs.Steps.{start, join_booked, joined, joined_cells, separated, separation_booked}
 use Rattle.view.specs.View.{View, width, next, is_open, Roomy}
-use Rattle.board.specs.Answers.{refusal_of, is_roomy, load_checked, load_rules, are_two, step_checked, step_rules, join_answer, separation_answer, remaining_answer, remaining_rules, if_done, WhenDone, Leaves, Carries}
+use Rattle.job.specs.Answers.{refusal_of}
+use Rattle.board.specs.Answers.{is_roomy, load_checked, load_rules, are_two, step_checked, step_rules, join_answer, separation_answer, remaining_answer, remaining_rules, if_done, WhenDone, Leaves, Carries}
 use Rattle.board.specs.Refusals.{load_number, step_number, remaining_number}
 use Rattle.board.specs.State.{view_of}
 use Rattle.board.specs.Trail.{Past}

@@ -35,11 +35,6 @@ abbrev pub WhenRefused : {T E : Type 0} → Result T E → Type 0 → Type 0
 WhenRefused (Ok _) holds = Unit {0}
 WhenRefused (Err _) holds = holds
 
--- only whether a call refused, and how
-abbrev pub refusal_of : {T E : Type 0} → Result T E → Result (Unit {0}) E
-refusal_of (Ok _) = Ok tt
-refusal_of (Err refusal) = Err refusal
-
 -- cells enough for every pair of ids, as a test
 abbrev pub is_roomy : {A : Type 0} → View → List A → Bool
 is_roomy v cells = nat_le (width v * width v) (length cells)

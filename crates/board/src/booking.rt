@@ -1,6 +1,6 @@
 // What steps book, and the amounts that a join writes.
 ghost use Rattle.std.specs.Prelude.{◌≡◌, true};
-ghost use Rattle.view.specs.Steps.{is_other, join_own, join_other, join_others, join_booked, joined_cells, separation_booked};
+ghost use Rattle.view.specs.Steps.{is_other, join_other, join_others, join_booked, joined_cells};
 ghost use Rattle.view.specs.View.{is_open, Roomy};
 ghost use Rattle.board.specs.State.{view_of};
 
@@ -16,14 +16,7 @@ impl Board {
         self.is_live(id) && id != a && id != b
     }
 
-    // What a join books for its own pair.
-    fn join_own<A: Amount>(&self, cells: &[A], a: usize, b: usize) -> A
-        ensures { result ≡ join_own A.Amount.kind (view_of self.now.state) cells.now a b }
-    {
-        self.amount(cells, a, b).negative_part()
-    }
-
-    // What it books for one other id.
+    // What a join books for one other id.
     fn join_other<A: Amount>(&self, cells: &[A], a: usize, b: usize, w: usize) -> A
         ensures { result ≡ join_other A.Amount.kind (view_of self.now.state) cells.now a b w }
     {
@@ -39,28 +32,18 @@ impl Board {
     fn join_others<A: Amount>(&self, cells: &[A], a: usize, b: usize) -> A
         ensures { result ≡ join_others A.Amount.kind (view_of self.now.state) cells.now a b }
     {
-        let mut total = A::zero();
-        for w in 0..self.width() {
-            if self.is_other(a, b, w) {
-                total = total.sum(self.join_other(cells, a, b, w));
-            }
-        }
-        total
+        (0..self.width())
+            .filter(|w| self.is_other(a, b, *w))
+            .map(|w| self.join_other(cells, a, b, w))
+            .fold(A::zero(), A::sum)
     }
 
-    // What a join books.
+    // What a join books: for its own pair, and for all others.
     pub(crate) fn join_booked<A: Amount>(&self, cells: &[A], a: usize, b: usize) -> A
         ensures { result ≡ join_booked A.Amount.kind (view_of self.now.state) cells.now a b }
     {
-        self.join_own(cells, a, b)
-            .sum(self.join_others(cells, a, b))
-    }
-
-    // What a separation books.
-    pub(crate) fn separation_booked<A: Amount>(&self, cells: &[A], a: usize, b: usize) -> A
-        ensures { result ≡ separation_booked A.Amount.kind (view_of self.now.state) cells.now a b }
-    {
-        self.amount(cells, a, b).positive_part()
+        let own = self.amount(cells, a, b).negative_part();
+        own.sum(self.join_others(cells, a, b))
     }
 
     // Writes the amounts of the id that a join makes: to each other id the sum of theirs.

@@ -1,12 +1,14 @@
 // Loading a job onto a board.
-ghost use Rattle.std.specs.Prelude.{◌≡◌, ◌-◌, ◌*◌, ◌<◌, ◌≤◌, false, [], length};
-ghost use Rattle.job.specs.Answers.{refused_with, FirstBroken};
-ghost use Rattle.job.specs.Job.{max_parts, job_of, mark_at};
+ghost use Rattle.std.specs.Prelude.{◌≡◌, ◌*◌, ◌<◌, ◌≤◌, false, length, IfOk};
+ghost use Rattle.job.specs.Answers.{refused_with, refusal_of, FirstBroken};
+ghost use Rattle.job.specs.Job.{max_parts, mark_at};
+ghost use Rattle.job.specs.Lent.{job_of};
 ghost use Rattle.view.specs.Reached.{Reached};
 ghost use Rattle.view.specs.Steps.{start, loaded_cells, load_booked};
-ghost use Rattle.board.specs.Answers.{if_done, WhenDone, refusal_of, is_roomy, load_checked, load_rules};
+ghost use Rattle.board.specs.Answers.{if_done, WhenDone, is_roomy, load_checked, load_rules};
 ghost use Rattle.board.specs.Refusals.{load_number};
 ghost use Rattle.board.specs.State.{view_of};
+ghost use Rattle.view.specs.View.{Roomy};
 ghost use Rattle.board.specs.Trail.{up_to, started};
 
 use crate::board::Board;
@@ -14,14 +16,13 @@ use crate::cells::put;
 use crate::refusals::LoadRefusal;
 use crate::state::{MAX_IDS, MAX_STEPS, State};
 use amount::Amount;
-use job::MAX_PARTS;
+use job::{Job, MAX_PARTS, SizedJob};
 
 // Whether there are cells enough for every pair of ids.
-fn is_roomy<A: Amount>(parts: usize, cells: &[A]) -> bool
-    requires { (1 ≤ parts) × (parts ≤ max_parts) }
-    ensures { result ≡ is_roomy (start (job_of {A = A} parts [] [])) cells.now }
+fn is_roomy<A: Amount>(job: &SizedJob<'_, A>, cells: &[A]) -> bool
+    ensures { result ≡ is_roomy (start (job_of job.now.job)) cells.now }
 {
-    let width = 2 * parts - 1;
+    let width = 2 * job.job.parts - 1;
     cells.len() >= width * width
 }
 
@@ -62,51 +63,52 @@ fn start_state(parts: usize, marks: &[bool]) -> State
 }
 
 // Writes the square into the cells of the parts, and no other cell.
-fn write_square<A: Amount>(parts: usize, square: &[A], cells: &mut [A])
-    requires { (1 ≤ parts) × ((parts ≤ max_parts) × ((length square.now ≡ parts * parts) × ((2 * parts - 1) * (2 * parts - 1) ≤ length cells.old))) }
-    ensures { cells.new ≡ loaded_cells A.Amount.kind (job_of parts square.now []) cells.old }
+fn write_square<A: Amount>(job: &SizedJob<'_, A>, cells: &mut [A])
+    requires { Roomy (start (job_of job.now.job)) cells.old }
+    ensures { cells.new ≡ loaded_cells A.Amount.kind (job_of job.now.job) cells.old }
 {
+    let parts = job.job.parts;
     let width = 2 * parts - 1;
-    for (place, amount) in square.iter().enumerate() {
+    for (place, amount) in job.job.square.iter().enumerate() {
         put(cells, width, place / parts, place % parts, *amount);
     }
 }
 
-// Whether a job can be loaded into these cells: it writes nothing.
-pub fn check<A: Amount>(
-    parts: usize,
-    square: &[A],
-    marks: &[bool],
-    cells: &[A],
-) -> Result<(), LoadRefusal>
-    ensures value { result ≡ load_checked A.Amount.kind (job_of parts square.now marks.now) cells.now }
-    ensures tells { FirstBroken (load_rules A.Amount.kind (job_of parts square.now marks.now) cells.now) (refused_with load_number result) }
+// The job, if it can be loaded into these cells.
+fn checked<'a, A: Amount>(job: &Job<'a, A>, cells: &[A]) -> Result<SizedJob<'a, A>, LoadRefusal>
+    ensures value { refusal_of result ≡ load_checked A.Amount.kind (job_of job.now) cells.now }
+    ensures same { IfOk result (λ sized. job_of sized.job ≡ job_of job.now) }
+    ensures tells { FirstBroken (load_rules A.Amount.kind (job_of job.now) cells.now) (refused_with load_number result) }
 {
-    job::check_sizes(parts, square, marks)?;
-    if !is_roomy(parts, cells) {
+    let sized = job.sized()?;
+    if !is_roomy(&sized, cells) {
         return Err(LoadRefusal::TooFewCells);
     }
-    job::check(parts, square, marks)?;
+    job.check()?;
+    Ok(sized)
+}
+
+// Whether a job can be loaded into these cells: it writes nothing.
+pub fn check<A: Amount>(job: &Job<'_, A>, cells: &[A]) -> Result<(), LoadRefusal>
+    ensures value { result ≡ load_checked A.Amount.kind (job_of job.now) cells.now }
+    ensures tells { FirstBroken (load_rules A.Amount.kind (job_of job.now) cells.now) (refused_with load_number result) }
+{
+    checked(job, cells)?;
     Ok(())
 }
 
 impl Board {
     // Loads a job: the parts are live, the marked pairs are apart, and the cells of the parts hold the amounts.
-    pub fn load<A: Amount>(
-        parts: usize,
-        square: &[A],
-        marks: &[bool],
-        cells: &mut [A],
-    ) -> Result<Board, LoadRefusal>
-        ensures answer { refusal_of result ≡ load_checked A.Amount.kind (job_of parts square.now marks.now) cells.old }
-        ensures tells { FirstBroken (load_rules A.Amount.kind (job_of parts square.now marks.now) cells.old) (refused_with load_number result) }
-        ensures board { WhenDone result (λ b. (view_of b.state ≡ start (job_of parts square.now marks.now)) × (b.state.standing ≡ 0)) }
-        ensures cells { cells.new ≡ if_done result (loaded_cells A.Amount.kind (job_of parts square.now marks.now) cells.old) cells.old }
-        ensures reached { WhenDone result (λ b. Reached A.Amount.kind (job_of parts square.now marks.now) (view_of b.state) cells.new (load_booked A.Amount.kind (job_of parts square.now marks.now))) }
+    pub fn load<A: Amount>(job: &Job<'_, A>, cells: &mut [A]) -> Result<Board, LoadRefusal>
+        ensures answer { refusal_of result ≡ load_checked A.Amount.kind (job_of job.now) cells.old }
+        ensures tells { FirstBroken (load_rules A.Amount.kind (job_of job.now) cells.old) (refused_with load_number result) }
+        ensures board { WhenDone result (λ b. (view_of b.state ≡ start (job_of job.now)) × (b.state.standing ≡ 0)) }
+        ensures cells { cells.new ≡ if_done result (loaded_cells A.Amount.kind (job_of job.now) cells.old) cells.old }
+        ensures reached { WhenDone result (λ b. Reached A.Amount.kind (job_of job.now) (view_of b.state) cells.new (load_booked A.Amount.kind (job_of job.now))) }
     {
-        check(parts, square, marks, cells)?;
-        write_square(parts, square, cells);
-        let state = start_state(parts, marks);
+        let sized = checked(job, cells)?;
+        write_square(&sized, cells);
+        let state = start_state(sized.job.parts, sized.job.marks);
         Ok(Board { state })
     }
 }

@@ -1,11 +1,11 @@
 // Lists of steps, each taken and kept.
 ghost use Rattle.std.specs.Prelude.{◌≡◌, length};
-ghost use Rattle.job.specs.Answers.{refused_with, FirstBroken};
-ghost use Rattle.job.specs.Job.{job_of};
+ghost use Rattle.job.specs.Answers.{refused_with, refusal_of, FirstBroken};
+ghost use Rattle.job.specs.Lent.{job_of};
 ghost use Rattle.view.specs.Law.{Kept};
 ghost use Rattle.view.specs.Play.{loaded};
 ghost use Rattle.view.specs.Reached.{Reached};
-ghost use Rattle.board.specs.Answers.{WhenDone, WhenRefused, refusal_of, load_checked, load_rules};
+ghost use Rattle.board.specs.Answers.{WhenDone, WhenRefused, load_checked, load_rules};
 ghost use Rattle.board.specs.Played.{position, Stepped, stood, Stands, Priced};
 ghost use Rattle.board.specs.Refusals.{load_number};
 ghost use Rattle.board.specs.State.{view_of};
@@ -13,6 +13,7 @@ ghost use Rattle.board.specs.State.{view_of};
 use crate::board::Board;
 use crate::refusals::{LoadRefusal, StepRefusal};
 use amount::Amount;
+use job::Job;
 use view::Step;
 
 // A step that was refused, by its place in the list.
@@ -68,22 +69,20 @@ fn play_on<A: Amount>(
 
 // Loads a job and plays a list of steps on its board, keeping each; a refused step ends it, and the steps before it stand.
 pub fn play<A: Amount>(
-    parts: usize,
-    square: &[A],
-    marks: &[bool],
+    job: &Job<'_, A>,
     cells: &mut [A],
     steps: &[Step],
 ) -> Result<Played<A>, LoadRefusal>
-    ensures answer { refusal_of result ≡ load_checked A.Amount.kind (job_of parts square.now marks.now) cells.old }
-    ensures tells { FirstBroken (load_rules A.Amount.kind (job_of parts square.now marks.now) cells.old) (refused_with load_number result) }
+    ensures answer { refusal_of result ≡ load_checked A.Amount.kind (job_of job.now) cells.old }
+    ensures tells { FirstBroken (load_rules A.Amount.kind (job_of job.now) cells.old) (refused_with load_number result) }
     ensures cells { WhenRefused result (cells.new ≡ cells.old) }
-    ensures stands { WhenDone result (λ p. Stands A.Amount.kind (loaded A.Amount.kind (job_of parts square.now marks.now) cells.old) steps.now (position p.board.state cells.new p.booked) p.refused) }
+    ensures stands { WhenDone result (λ p. Stands A.Amount.kind (loaded A.Amount.kind (job_of job.now) cells.old) steps.now (position p.board.state cells.new p.booked) p.refused) }
     ensures count { WhenDone result (λ p. p.board.state.standing ≡ length (stood steps.now p.refused)) }
-    ensures reached { WhenDone result (λ p. Reached A.Amount.kind (job_of parts square.now marks.now) (view_of p.board.state) cells.new p.booked) }
-    ensures law { WhenDone result (λ p. Priced A.Amount.kind (job_of parts square.now marks.now) (view_of p.board.state) cells.new p.booked) }
-    ensures keeps { WhenDone result (λ p. Kept A.Amount.kind (job_of parts square.now marks.now) (view_of p.board.state) cells.new p.booked) }
+    ensures reached { WhenDone result (λ p. Reached A.Amount.kind (job_of job.now) (view_of p.board.state) cells.new p.booked) }
+    ensures law { WhenDone result (λ p. Priced A.Amount.kind (job_of job.now) (view_of p.board.state) cells.new p.booked) }
+    ensures keeps { WhenDone result (λ p. Kept A.Amount.kind (job_of job.now) (view_of p.board.state) cells.new p.booked) }
 {
-    let mut board = Board::load(parts, square, marks, cells)?;
+    let mut board = Board::load(job, cells)?;
     let (booked, refused) = play_on(&mut board, cells, A::zero(), steps);
     Ok(Played {
         board,

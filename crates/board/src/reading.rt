@@ -6,7 +6,7 @@ ghost use Rattle.board.specs.State.{view_of};
 use crate::board::Board;
 use crate::state::MAX_IDS;
 use amount::Amount;
-use job::MAX_PARTS;
+use job::{MAX_PARTS, cell};
 
 impl Board {
     // Ids are below this; cells are in rows of this length.
@@ -65,9 +65,6 @@ impl Board {
     pub fn amount<A: Amount>(&self, cells: &[A], i: usize, j: usize) -> A
         ensures { result ≡ amount_in A.Amount.kind (view_of self.now.state) cells.now i j }
     {
-        match cells.get(i.saturating_mul(self.width()).saturating_add(j)) {
-            Some(amount) => *amount,
-            None => A::zero(),
-        }
+        cell(cells, self.width(), i, j).unwrap_or(A::zero())
     }
 }

@@ -98,7 +98,7 @@ impl Board {
         ensures fewer { open_count (view_of self.new.state) < open_count (view_of self.old.state) }
         ensures stays { Stays self.old.state self.new.state }
     {
-        let booked = self.separation_booked(cells, a, b);
+        let booked = self.amount(cells, a, b).positive_part();
         self.put_separation(a, b);
         booked
     }

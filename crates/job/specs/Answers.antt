@@ -59,3 +59,8 @@ job_rules k job = (1, Within job) ∷ (2, Sized job) ∷ (3, Mirrored k job) ∷
 
 abbrev pub cost_rules : {A : Type 0} → Kind A → Job A → List ℕ → List Rule
 cost_rules k job labels = job_rules k job ++ ((2, length labels ≡ job.parts) ∷ (7, Grouping job.parts labels) ∷ (6, Respects job labels) ∷ [])
+
+-- only whether a call refused, and how
+abbrev pub refusal_of : {T E : Type 0} → Result T E → Result (Unit {0}) E
+refusal_of (Ok _) = Ok tt
+refusal_of (Err refusal) = Err refusal

@@ -1,9 +1,9 @@
 // Jobs as they are lent: what is read of them, their check, and what a grouping costs.
-ghost use Rattle.std.specs.Prelude.{◌≡◌, IsOk};
-ghost use Rattle.job.specs.Answers.{sizes_checked, checked, priced, refused_with, FirstBroken, size_rules, job_rules, cost_rules};
+ghost use Rattle.std.specs.Prelude.{◌≡◌, IsOk, IfOk};
+ghost use Rattle.job.specs.Answers.{sizes_checked, checked, priced, refused_with, refusal_of, FirstBroken, size_rules, job_rules, cost_rules};
 ghost use Rattle.job.specs.Cost.{separating_charge, joining_charge, separating, joining, ExactCost};
 ghost use Rattle.job.specs.Grouping.{is_clash, is_respectful};
-ghost use Rattle.job.specs.Job.{amount_at, marked, is_twin, is_blank, is_narrow};
+ghost use Rattle.job.specs.Job.{amount_at, marked, Within, Sized, is_twin, is_blank, is_narrow};
 ghost use Rattle.job.specs.Lent.{job_of};
 ghost use Rattle.job.specs.Tests.{every, every_pair};
 ghost use Rattle.job.specs.Refusals.{job_number, cost_number};
@@ -21,7 +21,15 @@ pub struct Job<'a, A> {
     pub marks: &'a [bool],
 }
 
-impl<A: Amount> Job<'_, A> {
+// A job with as many parts as may be, and with buffers as long as they ask.
+#[derive(Drop)]
+pub struct SizedJob<'a, A> {
+    pub job: Job<'a, A>,
+    ghost within: { Within (job_of job) },
+    ghost sized: { Sized (job_of job) },
+}
+
+impl<'a, A: Amount> Job<'a, A> {
     // The amount in row i and column j; a cell that is not there reads as zero.
     pub fn amount(&self, i: usize, j: usize) -> A
         ensures { result ≡ amount_at A.Amount.kind (job_of self.now) i j }
@@ -73,8 +81,9 @@ impl<A: Amount> Job<'_, A> {
     }
 
     // The first part of the check: how many parts there are, and how long square and marks are. It writes nothing.
-    pub fn check_sizes(&self) -> Result<(), JobRefusal>
-        ensures value { result ≡ sizes_checked (job_of self.now) }
+    pub fn sized(&self) -> Result<SizedJob<'a, A>, JobRefusal>
+        ensures value { refusal_of result ≡ sizes_checked (job_of self.now) }
+        ensures same { IfOk result (λ sized. job_of sized.job ≡ job_of self.now) }
         ensures tells { FirstBroken (size_rules (job_of self.now)) (refused_with job_number result) }
     {
         let parts = self.parts;
@@ -84,7 +93,7 @@ impl<A: Amount> Job<'_, A> {
         if self.square.len() != parts * parts || self.marks.len() != parts * parts {
             return Err(JobRefusal::WrongSize);
         }
-        Ok(())
+        Ok(SizedJob { job: *self })
     }
 
     // The check of a job: it writes nothing.
@@ -92,7 +101,7 @@ impl<A: Amount> Job<'_, A> {
         ensures value { result ≡ checked A.Amount.kind (job_of self.now) }
         ensures tells { FirstBroken (job_rules A.Amount.kind (job_of self.now)) (refused_with job_number result) }
     {
-        self.check_sizes()?;
+        self.sized()?;
         if !self.is_symmetric() || !self.is_bare() {
             return Err(JobRefusal::Lopsided);
         }

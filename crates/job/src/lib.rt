@@ -17,7 +17,7 @@ mod pairs;
 pub use bills::Bill;
 pub use cells::cell;
 pub use groups::{is_grouping, label, share_group};
-pub use lent::Job;
+pub use lent::{Job, SizedJob};
 pub use pairs::Pairs;
 
 // The most parts of a job.

@@ -1,5 +1,5 @@
 use Rattle.std.proofs.Common.{◌≡◌, subst}
-use Rattle.job.specs.Job.{job_of}
+use Rattle.job.specs.Lent.{job_of}
 use Rattle.view.specs.Play.{Position, loaded}
 use Rattle.view.specs.Reached.{Reached}
 use Rattle.view.proofs.Reaching.{booked_and_remaining, reached_keeps}
@@ -12,7 +12,7 @@ pub returns : goal.returns
 returns g c =
     let k = g.A.Amount.kind in
     let laws = g.met.A.Amount.laws in
-    let job = job_of c.args.parts c.args.square.now c.args.marks.now in
+    let job = job_of c.args.job.now in
     let cells = c.args.cells.now in
     let load = c.in_ok-board.ensures in
     let end = c.play_on-booked in

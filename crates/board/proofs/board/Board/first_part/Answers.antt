@@ -1,17 +1,14 @@
-use Rattle.std.proofs.Common.{sym, arith}
-use Rattle.view.proofs.Joining.{first_is, none_first}
+use Rattle.std.proofs.Common.{◌≡◌, unwrap_or, find, sym, ap, ◌∙◌, rules, tests, arith}
+use Rattle.std.specs.List.{range_with_len}
+use Rattle.std.proofs.lemmas.Iterator.{YieldsList-from_range}
+use Rattle.std.proofs.lemmas.Iterator.Search.{find_from_yields_List}
+use Rattle.std.proofs.lemmas.Iterator.Adapters.{option_map_id}
 use Rattle.board.specs.State.{view_of}
-use Rattle.board.proofs.Views.{parts_are}
 use Rattle.board.proofs.board.Board.first_part.Goals as goal
 
-pub returns-then-holds : goal.returns-then-holds
-returns-then-holds c = record {
-  value = sym (first_is ((view_of c.args.self.now.state).holds c.args.id) 0 (view_of c.args.self.now.state).parts c.loop-part.part (omega arith) (omega (arith, c.loop-part-test.true, c.parts-part-end.ensures)) c.loop-part.invariant (sym c.if-holds.ensures));
-  inside = omega (arith, c.loop-part-test.true, c.parts-part-end.ensures);
-}
-
 pub returns : goal.returns
-returns c = record {
-  value = sym (none_first ((view_of c.args.self.now.state).holds c.args.id) 0 (view_of c.args.self.now.state).parts (λ i h. c.loop-part.invariant i (omega (arith, c.loop-part-test.false, c.parts-part-end.ensures))));
-  inside = omega (arith, c.args.self.now.some, parts_are c.args.self.now.state);
-}
+returns c =
+    let v = view_of c.args.self.now.state in
+    let found : c.find.result ≡ find (v.holds c.args.id) (range_with_len 0 v.parts) =
+        sym (option_map_id c.find.result) ∙ find_from_yields_List (v.holds c.args.id) _ _ _ c.find.ensures.ran (YieldsList-from_range 0 v.parts v.parts (search rules) (omega arith)) (λ x b q k. search (rules, tests)) in
+    c.unwrap_or.ensures ∙ ap (λ o. unwrap_or o 0) found
