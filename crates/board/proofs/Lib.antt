@@ -1,7 +1,6 @@
 pub mod Views
 pub mod Back
 pub mod Written
-pub mod Kept
 pub mod Told
 pub mod Loaded
 pub mod Runs

@@ -1,7 +1,7 @@
 // Steps on the board of the first worked job: tried, dropped, kept and refused.
 use amount::{Amount, Single, is_same};
 use board::{Board, StepRefusal, play};
-use job::cost;
+use job::Job;
 use view::Step;
 
 const PARTS: usize = 3;
@@ -14,17 +14,20 @@ const UNMARKED: [bool; 9] = [false; 9];
 // Enough for every pair of the five ids that three parts can lead to.
 const CELLS: usize = (2 * PARTS - 1) * (2 * PARTS - 1);
 
-// Says what a join answered.
-fn tell_join(
+// Says what a step answered: the id that it made, if it was a join, and what it booked.
+fn tell(
     rt: &HostRuntime,
     what: &str,
-    answer: Result<(usize, Single), StepRefusal>,
+    answer: Result<(Option<usize>, Single), StepRefusal>,
 ) -> anyhow::Result<()> {
     match answer {
-        Ok(made) => {
-            let (id, booked) = made;
+        Ok(taken) => {
+            let (made, booked) = taken;
             let amount = booked.value();
-            println!(rt; "  {what}: makes id {id}, books {amount}")?;
+            match made {
+                Some(id) => println!(rt; "  {what}: makes id {id}, books {amount}")?,
+                None => println!(rt; "  {what}: books {amount}")?,
+            }
         }
         Err(refusal) => {
             let number = refusal.number();
@@ -32,6 +35,15 @@ fn tell_join(
         }
     }
     Ok(())
+}
+
+// Says what a join answered.
+fn tell_join(
+    rt: &HostRuntime,
+    what: &str,
+    answer: Result<(usize, Single), StepRefusal>,
+) -> anyhow::Result<()> {
+    tell(rt, what, answer.map(|(id, booked)| (Some(id), booked)))
 }
 
 // Says what a separation answered.
@@ -40,27 +52,15 @@ fn tell_separation(
     what: &str,
     answer: Result<Single, StepRefusal>,
 ) -> anyhow::Result<()> {
-    match answer {
-        Ok(booked) => {
-            let amount = booked.value();
-            println!(rt; "  {what}: books {amount}")?;
-        }
-        Err(refusal) => {
-            let number = refusal.number();
-            println!(rt; "  {what}: refused with {number}: {refusal}")?;
-        }
-    }
-    Ok(())
+    tell(rt, what, answer.map(|booked| (None, booked)))
 }
 
 // Says which ids are live.
 fn tell_live(rt: &HostRuntime, board: &Board) -> anyhow::Result<()> {
     let count = board.live_count();
     print!(rt; "  {count} live ids:")?;
-    for id in 0..board.width() {
-        if board.is_live(id) {
-            print!(rt; " {id}")?;
-        }
+    for id in (0..board.width()).filter(|id| board.is_live(*id)) {
+        print!(rt; " {id}")?;
     }
     println!(rt; "")?;
     Ok(())
@@ -90,13 +90,13 @@ fn show_trials(rt: &HostRuntime, board: &mut Board, cells: &mut [Single]) -> any
 fn show_law(
     rt: &HostRuntime,
     board: &Board,
-    square: &[Single],
+    job: &Job<'_, Single>,
     cells: &[Single],
     booked: Single,
 ) -> anyhow::Result<()> {
     for labels in &GROUPINGS {
         if let Ok(rest) = board.remaining(cells, labels) {
-            let price = cost(PARTS, square, &UNMARKED, labels)?;
+            let price = job.cost(labels)?;
             let sign = if is_same(booked.sum(rest), price) {
                 "="
             } else {
@@ -123,7 +123,7 @@ fn show_refused(rt: &HostRuntime, board: &mut Board, cells: &mut [Single]) -> an
 }
 
 // The same steps as a list.
-fn show_list(rt: &HostRuntime, square: &[Single]) -> anyhow::Result<()> {
+fn show_list(rt: &HostRuntime, job: &Job<'_, Single>) -> anyhow::Result<()> {
     let mut cells = [Single::zero(); CELLS];
     let steps = [
         Step::Join(0, 1),
@@ -131,7 +131,7 @@ fn show_list(rt: &HostRuntime, square: &[Single]) -> anyhow::Result<()> {
         Step::Join(2, 3),
         Step::Join(0, 1),
     ];
-    let played = play(PARTS, square, &UNMARKED, &mut cells, &steps)?;
+    let played = play(job, &mut cells, &steps)?;
     let booked = played.booked.value();
     println!(rt; "  a list of four steps: booked {booked}")?;
     if let Some(refused) = played.refused {
@@ -145,17 +145,22 @@ fn show_list(rt: &HostRuntime, square: &[Single]) -> anyhow::Result<()> {
 // Plays the steps, and shows what each answers.
 pub fn show_steps(rt: &HostRuntime, square: &[Single]) -> anyhow::Result<()> {
     let mut cells = [Single::zero(); CELLS];
-    let mut board = Board::load(PARTS, square, &UNMARKED, &mut cells)?;
+    let job = Job {
+        parts: PARTS,
+        square,
+        marks: &UNMARKED,
+    };
+    let mut board = Board::load(&job, &mut cells)?;
     let parts = board.parts();
     println!(rt; "  loaded: {parts} parts")?;
     show_trials(rt, &mut board, &mut cells)?;
     let (id, joined) = board.join(&mut cells, 0, 1).keep()?;
     tell_join(rt, "join of 0 and 1, kept", Ok((id, joined)))?;
     tell_live(rt, &board)?;
-    show_law(rt, &board, square, &cells, joined)?;
+    show_law(rt, &board, &job, &cells, joined)?;
     let separated = board.separate(&cells, id, 2).keep()?;
     tell_separation(rt, "separation of 3 and 2, kept", Ok(separated))?;
     show_refused(rt, &mut board, &mut cells)?;
-    show_law(rt, &board, square, &cells, joined.sum(separated))?;
-    show_list(rt, square)
+    show_law(rt, &board, &job, &cells, joined.sum(separated))?;
+    show_list(rt, &job)
 }

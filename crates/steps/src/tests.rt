@@ -1,13 +1,23 @@
 // The refusals of loading and steps, in their order: where several apply, the first is given. And trials inside trials.
 use amount::{Amount, Single};
 use board::{Board, StepRefusal};
+use job::Job;
 use std::test::Fail;
+
+// A job of so many parts.
+fn job<'a>(parts: usize, square: &'a [Single], marks: &'a [bool]) -> Job<'a, Single> {
+    Job {
+        parts,
+        square,
+        marks,
+    }
+}
 
 // A join inside a separation, each kept or dropped: how many ids are live then, and whether 0 and 2, and 2 and 3, are apart.
 fn nested(outer_kept: bool, inner_kept: bool) -> Result<(usize, bool, bool), Fail> {
     let zero = Single::zero();
     let mut cells = [zero; 25];
-    let mut board = Board::load(3, &[zero; 9], &[false; 9], &mut cells)?;
+    let mut board = Board::load(&job(3, &[zero; 9], &[false; 9]), &mut cells)?;
     {
         let outer = board.separate(&cells, 0, 2);
         {
@@ -39,7 +49,7 @@ fn left_early(board: &mut Board, cells: &mut [Single]) -> Result<usize, StepRefu
 fn early_return(rt: HostRuntime) -> Result<(), Fail> {
     let zero = Single::zero();
     let mut cells = [zero; 25];
-    let mut board = Board::load(3, &[zero; 9], &[false; 9], &mut cells)?;
+    let mut board = Board::load(&job(3, &[zero; 9], &[false; 9]), &mut cells)?;
     assert!(rt; left_early(&mut board, &mut cells).is_err());
     assert!(rt; board.is_open(0, 2));
     Ok(())
@@ -55,16 +65,10 @@ fn dropped_and_kept(rt: HostRuntime) -> Result<(), Fail> {
 }
 
 // The number of the refusal of a load, absent where the job is loaded.
-fn load_refusal(
-    parts: usize,
-    square: &[Single],
-    marks: &[bool],
-    cells: &mut [Single],
-) -> Option<u8> {
-    match Board::load(parts, square, marks, cells) {
-        Ok(_) => None,
-        Err(refusal) => Some(refusal.number()),
-    }
+fn load_refusal(job: &Job<'_, Single>, cells: &mut [Single]) -> Option<u8> {
+    Board::load(job, cells)
+        .err()
+        .map(|refusal| refusal.number())
 }
 
 // The number of the refusal of a join, and of a separation, of the same two.
@@ -74,23 +78,20 @@ fn step_refusals(
     a: usize,
     b: usize,
 ) -> (Option<u8>, Option<u8>) {
-    let join = match board.join(cells, a, b).answer {
-        Ok(_) => None,
-        Err(refusal) => Some(refusal.number()),
-    };
-    let separation = match board.separate(cells, a, b).answer {
-        Ok(_) => None,
-        Err(refusal) => Some(refusal.number()),
-    };
-    (join, separation)
+    let join = board.join(cells, a, b).answer.err();
+    let separation = board.separate(cells, a, b).answer.err();
+    (
+        join.map(|refusal| refusal.number()),
+        separation.map(|refusal| refusal.number()),
+    )
 }
 
 // The number of the refusal of what remains, absent where it is told.
 fn remaining_refusal(board: &Board, cells: &[Single], labels: &[usize]) -> Option<u8> {
-    match board.remaining(cells, labels) {
-        Ok(_) => None,
-        Err(refusal) => Some(refusal.number()),
-    }
+    board
+        .remaining(cells, labels)
+        .err()
+        .map(|refusal| refusal.number())
 }
 
 #[test]
@@ -103,17 +104,17 @@ fn board_refusals_in_order(rt: HostRuntime) -> Result<(), Fail> {
     let mut short = [zero; 8];
     let mut cells = [zero; 9];
     let loads = [
-        (load_refusal(33, &[], &[], &mut []), Some(1)),
-        (load_refusal(2, &[wide; 3], &marked, &mut short), Some(2)),
-        (load_refusal(2, &lopsided, &marked, &mut short), Some(2)),
-        (load_refusal(2, &lopsided, &marked, &mut cells), Some(3)),
-        (load_refusal(2, &too_wide, &marked, &mut cells), Some(4)),
-        (load_refusal(2, &[zero; 4], &marked, &mut cells), None),
+        (load_refusal(&job(33, &[], &[]), &mut []), Some(1)),
+        (load_refusal(&job(2, &[wide; 3], &marked), &mut short), Some(2)),
+        (load_refusal(&job(2, &lopsided, &marked), &mut short), Some(2)),
+        (load_refusal(&job(2, &lopsided, &marked), &mut cells), Some(3)),
+        (load_refusal(&job(2, &too_wide, &marked), &mut cells), Some(4)),
+        (load_refusal(&job(2, &[zero; 4], &marked), &mut cells), None),
     ];
     for (given, expected) in loads {
         assert_eq!(rt; given, expected);
     }
-    let mut board = Board::load(2, &[zero; 4], &marked, &mut cells)?;
+    let mut board = Board::load(&job(2, &[zero; 4], &marked), &mut cells)?;
     let steps = [
         (step_refusals(&mut board, &mut short, 0, 7), Some(2)),
         (step_refusals(&mut board, &mut cells, 0, 7), Some(5)),
