@@ -21,7 +21,7 @@ use Rattle.view.specs.Steps.{start, join_booked, joined, joined_cells, separated
 use Rattle.view.specs.View.{View, width, next, is_open, Roomy}
 use Rattle.board.specs.Answers.{refusal_of, is_roomy, load_checked, load_rules, are_two, step_checked, step_rules, join_answer, separation_answer, remaining_answer, remaining_rules, if_done, WhenDone, Leaves, Carries}
 use Rattle.board.specs.Refusals.{load_number, step_number, remaining_number}
-use Rattle.board.specs.State.{view_of}
+use Rattle.board.specs.State.{standing, view_of}
 use Rattle.board.specs.Trail.{Past}
 use Rattle.board.specs.declared.refusals.RemainingRefusal.{RemainingRefusal}
 use Rattle.board.specs.declared.refusals.RemainingRefusal.TheVariants as remains
@@ -145,9 +145,9 @@ respects_prop v labels x y = λ z. record {
 decides_prop : (b : Bool) (P : Type 0) → IsProp P → IsProp (Decides b P)
 decides_prop b P prop = ×_prop (Π_prop (λ _. prop)) (Π_prop (λ _. Bool-set b true))
 
-module _ (s : State) (past : ∥ Past s.standing s ∥₁) (labels : List ℕ) where
+module _ (s : State) (past : ∥ Past (standing s) s ∥₁) (labels : List ℕ) where
   respected_told : Decides (is_respected (view_of s) labels) (RespectsBoard (view_of s) labels)
-  respected_told = ∥∥₁_elim past (decides_prop _ _ (respects_prop (view_of s) labels)) (λ p. respected_tells (view_of s) labels (past_tidy s.standing s p).well_formed)
+  respected_told = ∥∥₁_elim past (decides_prop _ _ (respects_prop (view_of s) labels)) (λ p. respected_tells (view_of s) labels (past_tidy (standing s) s p).well_formed)
 
   module _ {A : Type 0} (k : Kind A) (cells : List A) where
     remaining_tells : FirstBroken (remaining_rules (view_of s) labels) (refused_with remaining_number (remaining_answer k (view_of s) cells labels))

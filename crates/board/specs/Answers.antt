@@ -11,7 +11,7 @@ use Rattle.view.specs.Reached.{Reached}
 use Rattle.view.specs.Remaining.{RespectsBoard, remaining, is_respected}
 use Rattle.view.specs.Steps.{start, join_booked, separation_booked}
 use Rattle.view.specs.View.{View, width, next, Roomy}
-use Rattle.board.specs.State.{view_of}
+use Rattle.board.specs.State.{standing, view_of}
 use Rattle.board.specs.declared.refusals.LoadRefusal.{LoadRefusal}
 use Rattle.board.specs.declared.refusals.LoadRefusal.TheVariants as loading
 use Rattle.board.specs.declared.refusals.RemainingRefusal.{RemainingRefusal}
@@ -82,7 +82,7 @@ separation_answer k v cells a b = refuse_or (λ refusal. refusal) (step_checked 
 
 -- what a step leaves of a board: taken, the view that its rule gives, one step more, and fewer open pairs; refused, the board as it was
 abbrev pub Leaves : {T : Type 0} → Result T StepRefusal → State → View → State → Type 0
-Leaves (Ok _) before stepped after = (view_of after ≡ stepped) × ((after.standing ≡ before.standing + 1) × (open_count (view_of after) < open_count (view_of before)))
+Leaves (Ok _) before stepped after = (view_of after ≡ stepped) × ((standing after ≡ standing before + 1) × (open_count (view_of after) < open_count (view_of before)))
 Leaves (Err _) before stepped after = after ≡ before
 
 -- a step that books this leads from reached boards to reached boards

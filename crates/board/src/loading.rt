@@ -1,20 +1,21 @@
 // Loading a job onto a board.
-ghost use Rattle.std.specs.Prelude.{◌≡◌, ◌-◌, ◌*◌, ◌<◌, ◌≤◌, false, [], length};
+ghost use Rattle.std.specs.Prelude.{◌≡◌, ◌-◌, ◌*◌, ◌<◌, ◌≤◌, ◌&&◌, [], length, nat_lt};
 ghost use Rattle.job.specs.Answers.{refused_with, FirstBroken};
 ghost use Rattle.job.specs.Job.{max_parts, job_of, mark_at};
 ghost use Rattle.view.specs.Reached.{Reached};
 ghost use Rattle.view.specs.Steps.{start, loaded_cells, load_booked};
 ghost use Rattle.board.specs.Answers.{if_done, WhenDone, refusal_of, is_roomy, load_checked, load_rules};
 ghost use Rattle.board.specs.Refusals.{load_number};
-ghost use Rattle.board.specs.State.{view_of};
-ghost use Rattle.board.specs.Trail.{up_to, started};
+ghost use Rattle.board.specs.State.{standing, view_of};
+ghost use Rattle.board.specs.Trail.{part_id, started};
 
 use crate::board::Board;
 use crate::cells::put;
 use crate::refusals::LoadRefusal;
-use crate::state::{MAX_IDS, MAX_STEPS, State};
+use crate::state::{Id, State};
 use amount::Amount;
-use job::MAX_PARTS;
+use arrayvec::ArrayVec;
+use std::array;
 
 // Whether there are cells enough for every pair of ids.
 fn is_roomy<A: Amount>(parts: usize, cells: &[A]) -> bool
@@ -25,39 +26,39 @@ fn is_roomy<A: Amount>(parts: usize, cells: &[A]) -> bool
     cells.len() >= width * width
 }
 
-// The marks of a part with the parts below it.
-fn marked_row(parts: usize, marks: &[bool], i: usize) -> [bool; MAX_IDS]
+// Whether a part is marked with one below it.
+fn is_marked_below(parts: usize, marks: &[bool], i: usize, j: usize) -> bool
     requires { (parts ≤ max_parts) × ((length marks.now ≡ parts * parts) × (i < parts)) }
-    ensures { result ≡ up_to i (mark_at parts marks.now i) false }
+    ensures { result ≡ (nat_lt j i && mark_at parts marks.now i j) }
 {
-    let mut row = [false; MAX_IDS];
-    for j in 0..i {
-        row[j] = marks[i * parts + j];
-    }
-    row
+    j < i && marks[i * parts + j]
 }
 
-// The arrays of a board with no step yet: each part is alone, and the marked pairs are apart.
+// The id of a part on a board with no step: it is alone, and its row has its marks with the parts below it.
+fn part_id(parts: usize, marks: &[bool], i: usize) -> Id
+    requires { (parts ≤ max_parts) × ((length marks.now ≡ parts * parts) × (i < parts)) }
+    ensures { result ≡ part_id parts marks.now i }
+{
+    Id {
+        live: true,
+        apart: array::from_fn(|j| is_marked_below(parts, marks, i, j)),
+        members: array::from_fn(|p| i == p),
+    }
+}
+
+// A board with no step yet.
 fn start_state(parts: usize, marks: &[bool]) -> State
     requires { (parts ≤ max_parts) × (length marks.now ≡ parts * parts) }
     ensures { result ≡ started parts marks.now }
 {
-    let mut live = [false; MAX_IDS];
-    let mut apart = [[false; MAX_IDS]; MAX_IDS];
-    let mut members = [[false; MAX_PARTS]; MAX_IDS];
+    let mut ids = ArrayVec::new();
     for i in 0..parts {
-        live[i] = true;
-        apart[i] = marked_row(parts, marks, i);
-        members[i][i] = true;
+        ids.push(part_id(parts, marks, i));
     }
     State {
         parts,
-        made: parts,
-        live,
-        apart,
-        members,
-        trail: [None; MAX_STEPS],
-        standing: 0,
+        ids,
+        trail: ArrayVec::new(),
     }
 }
 
@@ -100,7 +101,7 @@ impl Board {
     ) -> Result<Board, LoadRefusal>
         ensures answer { refusal_of result ≡ load_checked A.Amount.kind (job_of parts square.now marks.now) cells.old }
         ensures tells { FirstBroken (load_rules A.Amount.kind (job_of parts square.now marks.now) cells.old) (refused_with load_number result) }
-        ensures board { WhenDone result (λ b. (view_of b.state ≡ start (job_of parts square.now marks.now)) × (b.state.standing ≡ 0)) }
+        ensures board { WhenDone result (λ b. (view_of b.state ≡ start (job_of parts square.now marks.now)) × (standing b.state ≡ 0)) }
         ensures cells { cells.new ≡ if_done result (loaded_cells A.Amount.kind (job_of parts square.now marks.now) cells.old) cells.old }
         ensures reached { WhenDone result (λ b. Reached A.Amount.kind (job_of parts square.now marks.now) (view_of b.state) cells.new (load_booked A.Amount.kind (job_of parts square.now marks.now))) }
     {

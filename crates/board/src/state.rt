@@ -1,4 +1,5 @@
-// What a board holds, as plain arrays.
+// What a board holds.
+use arrayvec::ArrayVec;
 use job::MAX_PARTS;
 use view::Step;
 
@@ -8,18 +9,22 @@ pub(crate) const MAX_IDS: usize = 2 * MAX_PARTS - 1;
 // A step settles at least one pair of parts, so no more than these stand.
 pub(crate) const MAX_STEPS: usize = MAX_PARTS * (MAX_PARTS - 1) / 2;
 
-// What stands on a board. What belongs to an id is written once, when the id is made, so that taking a step back needs no copy; everything beyond the ids that were made and beyond the standing steps is blank.
-#[derive(Clone, Copy)]
+// What belongs to one id.
+#[derive(Clone, Copy, Default)]
+pub(crate) struct Id {
+    pub(crate) live: bool,
+    // of each id below this one: whether the two are apart
+    pub(crate) apart: [bool; MAX_IDS],
+    // of each part: whether this id holds it
+    pub(crate) members: [bool; MAX_PARTS],
+}
+
+// What stands on a board. An id is written when it is made, and later steps change single flags of it, so taking a step back needs no copy.
+#[derive(Drop)]
 pub(crate) struct State {
     pub(crate) parts: usize,
-    // how many ids were made, the parts among them: the next unused one
-    pub(crate) made: usize,
-    pub(crate) live: [bool; MAX_IDS],
-    // row i says of each id j below i whether the two are apart
-    pub(crate) apart: [[bool; MAX_IDS]; MAX_IDS],
-    // row i says of each part whether the id i holds it
-    pub(crate) members: [[bool; MAX_PARTS]; MAX_IDS],
+    // the ids that were made, the parts first; how many they are is the next unused one
+    pub(crate) ids: ArrayVec<Id, MAX_IDS>,
     // the steps that stand, first to last
-    pub(crate) trail: [Option<Step>; MAX_STEPS],
-    pub(crate) standing: usize,
+    pub(crate) trail: ArrayVec<Step, MAX_STEPS>,
 }

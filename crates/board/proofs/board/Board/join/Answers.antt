@@ -13,7 +13,7 @@ returns g c =
     let step = c.try_join-answer.ensures in
     record {
       lender = refl;
-      mark = refl;
+      mark = c.len-mark.ensures.value;
       answer = step.answer;
       tells = step_told v cells c.args.a c.args.b (next v, join_booked k v cells c.args.a c.args.b) c.try_join-answer.result step.answer;
       board = step.board;

@@ -12,7 +12,7 @@ returns g c =
     let step = c.try_separation-answer.ensures in
     record {
       lender = refl;
-      mark = refl;
+      mark = c.len-mark.ensures.value;
       answer = step.answer;
       tells = step_told v cells c.args.a c.args.b (separation_booked k v cells c.args.a c.args.b) c.try_separation-answer.result step.answer;
       board = step.board;
