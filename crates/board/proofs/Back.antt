@@ -23,7 +23,7 @@ use Rattle.view.proofs.Good.{kept_le, good_joined, good_separated}
 use Rattle.view.proofs.Count.{few_pairs, opens, opens_is, fewer_joined, fewer_separated}
 use Rattle.board.specs.Sizes.{max_ids, max_steps}
 use Rattle.board.specs.State.{made, standing, no_id, id_at, is_aside, view_of}
-use Rattle.board.specs.Trail.{joined_id, with_live, with_flag, redone, last_step, undone_by, undone, undone_times, taken_back, Stays, UndoableBy, Undoable, Tidy, Legal, Past}
+use Rattle.board.specs.Trail.{joined_id, with_live, with_flag, redone, last_step, undone_by, undone, undone_times, taken_back, Stays, Undoable, Tidy, Legal, Past}
 use Rattle.board.specs.contracts.state.State.{the_row}
 use Rattle.board.specs.declared.state.Id.{Id}
 use Rattle.board.specs.declared.state.State.{State}
@@ -177,7 +177,7 @@ past_more k s x p l =
     let P : State → Option Step → Type 0 = λ u y. Past k u × Legal u y × (redone s x ≡ redone u y) in
     subst₂ P (sym (undone_redone s t x l)) (sym (last_redone s t x l)) (p, l, refl)
 
-undoable_redone : (u : State) (x : Option Step) → Tidy u → Legal u x → UndoableBy (redone u x) x
+undoable_redone : (u : State) (x : Option Step) → Tidy u → Legal u x → Undoable (redone u x) x
 undoable_redone u None t l = absurd l
 undoable_redone u (Some (Join a b)) t l =
     let la = a_below u t a b l in
@@ -191,7 +191,7 @@ undoable_redone u (Some (Separation a b)) t l =
     (omega arith, omega arith)
 
 record Undoes (s : State) : Type 0 where
-  pub able : Undoable s
+  pub able : Undoable s (last_step s)
   pub fewer : standing (undone s) + 1 ≡ standing s
   pub past : Past (standing (undone s)) (undone s)
 
@@ -202,19 +202,19 @@ undoes s h q =
     let t = past_tidy (standing s - 1) (undone s) p.0 in
     let st = past_standing (standing s - 1) (undone s) p.0 in
     record {
-      able = subst (λ u. UndoableBy u (last_step s)) (sym p.2) (undoable_redone (undone s) (last_step s) t p.1);
+      able = subst (λ u. Undoable u (last_step s)) (sym p.2) (undoable_redone (undone s) (last_step s) t p.1);
       fewer = omega (arith, st);
       past = subst (λ k. Past k (undone s)) (sym st) p.0;
     }
 
-undoable_prop : (s : State) (x : Option Step) → IsProp (UndoableBy s x)
+undoable_prop : (s : State) (x : Option Step) → IsProp (Undoable s x)
 undoable_prop s None = Unit-prop
 undoable_prop s (Some (Join a b)) = ×_prop le_prop le_prop
 undoable_prop s (Some (Separation a b)) = ×_prop le_prop le_prop
 
 -- The same of a state whose past is known to be there, and not which.
 module _ (s : State) (p : ∥ Past (standing s) s ∥₁) where
-  pub undo_able : 0 < standing s → Undoable s
+  pub undo_able : 0 < standing s → Undoable s (last_step s)
   undo_able h = ∥∥₁_elim p (undoable_prop s (last_step s)) (λ q. (undoes s h q).able)
 
   pub undo_fewer : 0 < standing s → standing (undone s) + 1 ≡ standing s

@@ -7,6 +7,7 @@ use Rattle.std.proofs.lemmas.Bool.{cases_eq, cases_lt}
 use Rattle.std.proofs.lemmas.List.{get_or_past}
 use Rattle.std.proofs.lemmas.List.FromFn.{get_or-map-range_with_len, length-map-range_with_len, fill_by_all}
 use Rattle.board.specs.Trail.{flags}
+use Rattle.board.specs.declared.state.Id.{Id}
 
 pub denied : (b : Bool) → (b ≡ true → ⊥) → b ≡ false
 denied true h = absurd (h refl)
@@ -42,3 +43,6 @@ module _ (n : ℕ) (test : ℕ → Bool) where
       go : (k < n) ⊎ (n ≤ k) → get_or (flags n test) k false ≡ test k
       go (inl h) = get_or-map-range_with_len test 0 n k k false h (omega arith)
       go (inr h) = get_or_past (flags n test) k false (omega (arith, length-flags)) ∙ sym (denied (test k) (λ e. let l = within e in let no : ⊥ = omega arith in no))
+
+pub same_id : (live : Bool) (row row' members members' : List Bool) → row ≡ row' → members ≡ members' → ◌≡◌ {A = Id} (record { live = live; apart = row; members = members }) (record { live = live; apart = row'; members = members' })
+same_id live row row' members members' e f = λ z. record { live = live; apart = e z; members = f z }

@@ -13,7 +13,7 @@ made s = array_vec_len s.ids
 abbrev pub standing : State → ℕ
 standing s = array_vec_len s.trail
 
--- what is read of an id that was not made
+-- what stands for an id that was not made
 abbrev pub no_id : Id
 no_id = record { live = false; apart = []; members = [] }
 
@@ -27,11 +27,11 @@ is_live s i = (id_at s i).live
 abbrev pub is_member : State → ℕ → ℕ → Bool
 is_member s i p = slice_index_or (id_at s i).members p false
 
--- whether i and j are apart: the larger has it
+-- whether i and j are apart: the larger of the two has the flag
 abbrev pub is_aside : State → ℕ → ℕ → Bool
 is_aside s i j = slice_index_or (id_at s (max i j)).apart (min i j) false
 
--- what an id that is not live has means nothing
+-- what a board shows; what else an id has means nothing once it is not live
 unfoldable pub view_of : State → View
 view_of s = record {
   parts = s.parts;

@@ -13,11 +13,11 @@ use Rattle.board.specs.State.{made, standing, no_id, is_aside, is_member, view_o
 use Rattle.board.specs.declared.state.Id.{Id}
 use Rattle.board.specs.declared.state.State.{State}
 
--- a test's answer at each number below n
+-- what a test answers at each number below n
 unfoldable pub flags : ℕ → (ℕ → Bool) → List Bool
 flags n test = map test (range_with_len 0 n)
 
--- a part before any step: it is alone, and has its marks with the parts below it
+-- the id of a part before any step: the part alone, apart from the parts below it that it is marked with
 abbrev pub part_id : ℕ → List Bool → ℕ → Id
 part_id n marks i = record {
   live = true;
@@ -41,17 +41,17 @@ joined_id s a b = record {
   members = flags max_parts (λ p. is_member s a p || is_member s b p);
 }
 
--- the id i is live or not
+-- the ids with one made live, or not live
 abbrev pub with_live : List Id → ℕ → Bool → List Id
 with_live ids i live = slice_set ids i (record (slice_index_or ids i no_id) { live = live })
 
--- the flag of the pair a, b: the larger has it
+-- the ids with the flag of the pair a, b, which the larger has
 abbrev pub with_flag : List Id → ℕ → ℕ → Bool → List Id
 with_flag ids a b flag =
     let id = slice_index_or ids (max a b) no_id in
     slice_set ids (max a b) (record id { apart = slice_set id.apart (min a b) flag })
 
--- the ids after a step: two make way for the one made of them, or become apart
+-- the ids after a step: the two make way for the one made of them, or become apart
 abbrev pub ids_after : State → Step → List Id
 ids_after s (Join a b) = with_live (with_live s.ids.items a false) b false ++ joined_id s a b ∷ []
 ids_after s (Separation a b) = with_flag s.ids.items a b true
@@ -61,7 +61,7 @@ abbrev pub redone : State → Option Step → State
 redone s None = s
 redone s (Some step) = record s { ids = record { items = ids_after s step }; trail = record { items = s.trail.items ++ step ∷ [] } }
 
--- all but the last
+-- what `pop` leaves: all but the last
 abbrev pub but_last : {T : Type 0} → ArrayVec T → List T
 but_last v = take (array_vec_len v - 1) v.items
 
@@ -74,22 +74,19 @@ ids_before s (Separation a b) = with_flag s.ids.items a b false
 abbrev pub last_step : State → Option Step
 last_step s = slice_get s.trail.items (standing s - 1)
 
--- the state with its last step, which is this one, taken back
+-- what is asked to take back the last step, which is this one: its two ids were made before it
+abbrev pub Undoable : State → Option Step → Type 0
+Undoable s None = Unit {0}
+Undoable s (Some (Join a b)) = (a < made s - 1) × (b < made s - 1)
+Undoable s (Some (Separation a b)) = (a < made s) × (b < made s)
+
+-- the state with its last step, which is this one, taken back; with no step it stays
 abbrev pub undone_by : State → Option Step → State
 undone_by s None = s
 undone_by s (Some step) = record s { ids = record { items = ids_before s step }; trail = record { items = but_last s.trail } }
 
 abbrev pub undone : State → State
 undone s = undone_by s (last_step s)
-
--- what taking this last step back asks, so that it is safe: its ids are there
-abbrev pub UndoableBy : State → Option Step → Type 0
-UndoableBy s None = Unit {0}
-UndoableBy s (Some (Join a b)) = (a < made s - 1) × (b < made s - 1)
-UndoableBy s (Some (Separation a b)) = (a < made s) × (b < made s)
-
-abbrev pub Undoable : State → Type 0
-Undoable s = UndoableBy s (last_step s)
 
 abbrev pub undone_times : ℕ → State → State
 undone_times zero s = s
@@ -108,7 +105,7 @@ pub record Stays (s t : State) : Type 0 where
 pub record Tidy (s : State) : Type 0 where
   pub well_formed : Good (view_of s)
   pub made_next : made s ≡ next (view_of s)
-  -- each id has a flag for any other
+  -- each id has a flag for every id
   pub rows : All (λ id. length id.apart ≡ max_ids) s.ids.items
   -- each step that stands settled a pair
   pub budget : open_count (view_of s) + standing s ≤ pair_count s.parts

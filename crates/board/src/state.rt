@@ -1,6 +1,13 @@
-// What a board holds.
+// What a board holds, steps on it, and steps taken back.
+ghost use Rattle.std.specs.Prelude.{◌≡◌, ◌<◌, Some};
+ghost use Rattle.view.specs.declared.Step.TheVariants.{Join, Separation};
+ghost use Rattle.board.specs.Sizes.{max_ids, max_steps};
+ghost use Rattle.board.specs.State.{made, standing, is_live, is_aside, is_member};
+ghost use Rattle.board.specs.Trail.{joined_id, with_flag, redone, last_step, undone, Undoable};
+
 use arrayvec::ArrayVec;
 use job::MAX_PARTS;
+use std::array;
 use view::Step;
 
 // Ids are below this: a job has at most MAX_PARTS parts, and each join makes one id of two.
@@ -27,4 +34,85 @@ pub(crate) struct State {
     pub(crate) ids: ArrayVec<Id, MAX_IDS>,
     // the steps that stand, first to last
     pub(crate) trail: ArrayVec<Step, MAX_STEPS>,
+}
+
+impl State {
+    // Whether an id is live.
+    pub(crate) fn is_live(&self, id: usize) -> bool
+        ensures { result ≡ is_live self.now id }
+    {
+        self.ids.get(id).is_some_and(|id| id.live)
+    }
+
+    // Whether the larger of two ids says that they are apart.
+    pub(crate) fn is_aside(&self, i: usize, j: usize) -> bool
+        ensures { result ≡ is_aside self.now i j }
+    {
+        self.ids.get(i.max(j)).is_some_and(|id| id.apart[i.min(j)])
+    }
+
+    // Whether an id holds a part.
+    pub(crate) fn is_member(&self, id: usize, part: usize) -> bool
+        ensures { result ≡ is_member self.now id part }
+    {
+        self.ids
+            .get(id)
+            .is_some_and(|id| id.members.get(part) == Some(&true))
+    }
+
+    // The id made of two: apart from what either is apart from, with the parts of both.
+    fn joined_id(&self, a: usize, b: usize) -> Id
+        ensures { result ≡ joined_id self.now a b }
+    {
+        Id {
+            live: true,
+            apart: array::from_fn(|w| self.is_aside(a, w) || self.is_aside(b, w)),
+            members: array::from_fn(|p| self.is_member(a, p) || self.is_member(b, p)),
+        }
+    }
+
+    // The two make way for the id made of them.
+    pub(crate) fn put_join(&mut self, a: usize, b: usize)
+        requires { (a < made self.old) × ((b < made self.old) × ((made self.old < max_ids) × (standing self.old < max_steps))) }
+        ensures { self.new ≡ redone self.old (Some (Join a b)) }
+    {
+        let id = self.joined_id(a, b);
+        self.ids[a].live = false;
+        self.ids[b].live = false;
+        self.ids.push(id);
+        self.trail.push(Step::Join(a, b));
+    }
+
+    // Sets the flag of a pair, which the larger id has.
+    fn put_flag(&mut self, a: usize, b: usize, flag: bool)
+        requires { (a < made self.old) × (b < made self.old) }
+        ensures { self.new ≡ record self.old { ids = record { items = with_flag self.old.ids.items a b flag } } }
+    {
+        self.ids[a.max(b)].apart[a.min(b)] = flag;
+    }
+
+    // The two become apart.
+    pub(crate) fn put_separation(&mut self, a: usize, b: usize)
+        requires { (a < made self.old) × ((b < made self.old) × (standing self.old < max_steps)) }
+        ensures { self.new ≡ redone self.old (Some (Separation a b)) }
+    {
+        self.put_flag(a, b, true);
+        self.trail.push(Step::Separation(a, b));
+    }
+
+    // Takes back the last step, if one stands.
+    pub(crate) fn take_back(&mut self)
+        requires { Undoable self.old (last_step self.old) }
+        ensures { self.new ≡ undone self.old }
+    {
+        match self.trail.pop() {
+            None => {}
+            Some(Step::Join(a, b)) => {
+                self.ids.pop();
+                self.ids[b].live = true;
+                self.ids[a].live = true;
+            }
+            Some(Step::Separation(a, b)) => self.put_flag(a, b, false),
+        }
+    }
 }
