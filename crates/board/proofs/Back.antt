@@ -212,16 +212,40 @@ undoable_prop s None = Unit-prop
 undoable_prop s (Some (Join a b)) = ×_prop le_prop le_prop
 undoable_prop s (Some (Separation a b)) = ×_prop le_prop le_prop
 
+-- What a step adds is taken back on the way to any earlier mark.
+pub back_one : (mark : ℕ) (s t : State) → undone t ≡ s → standing t ≡ standing s + 1 → mark ≤ standing s → taken_back mark t ≡ taken_back mark s
+back_one mark s t e f h =
+    let n : standing t - mark ≡ suc (standing s - mark) = omega (arith, f) in
+    ap (λ k. undone_times k t) n ∙ ap (undone_times (standing s - mark)) e
+
+pub back_none : (mark : ℕ) (s : State) → standing s ≤ mark → taken_back mark s ≡ s
+back_none mark s h = let n : standing s - mark ≡ 0 = omega arith in ap (λ k. undone_times k s) n
+
+pub stays_step : (s t : State) → undone t ≡ s → standing t ≡ standing s + 1 → Stays s t
+stays_step s t e f = record { grows = omega (arith, f); back_to = λ mark h. back_one mark s t e f h }
+
+pub stays_same : (s t : State) → t ≡ s → Stays s t
+stays_same s t e = subst (Stays s) (sym e) (record { grows = omega arith; back_to = λ mark h. refl })
+
+pub stays_on : (s t u : State) → Stays s t → Stays t u → Stays s u
+stays_on s t u x y = record { grows = omega (arith, x.grows, y.grows); back_to = λ mark h. y.back_to mark (omega (arith, x.grows)) ∙ x.back_to mark h }
+
+-- For a caller: a trial opened on s stood at t, came back as u, and was let go as v.
+pub let_go : (mark : ℕ) (s t u v : State) → Stays s t → mark ≡ standing s → Stays t u → v ≡ taken_back mark u → v ≡ s
+let_go mark s t u v x e y g = let z = stays_on s t u x y in g ∙ z.back_to mark (omega (arith, e)) ∙ back_none mark s (omega (arith, e))
+
 -- The same of a state whose past is known to be there, and not which.
 module _ (s : State) (p : ∥ Past (standing s) s ∥₁) where
   pub undo_able : 0 < standing s → Undoable s (last_step s)
   undo_able h = ∥∥₁_elim p (undoable_prop s (last_step s)) (λ q. (undoes s h q).able)
 
-  pub undo_fewer : 0 < standing s → standing (undone s) + 1 ≡ standing s
-  undo_fewer h = ∥∥₁_elim p (Coded-set coded_ℕ _ _) (λ q. (undoes s h q).fewer)
+  -- t is s with its last step taken back
+  module _ (h : 0 < standing s) (t : State) (is : t ≡ undone s) where
+    pub undo_fewer : standing t + 1 ≡ standing s
+    undo_fewer = ap (λ (u : State). standing u + 1) is ∙ ∥∥₁_elim p (Coded-set coded_ℕ _ _) (λ q. (undoes s h q).fewer)
 
-  pub undo_past : 0 < standing s → ∥ Past (standing (undone s)) (undone s) ∥₁
-  undo_past h = ∥∥₁_map p (λ q. (undoes s h q).past)
+    pub undo_past : ∥ Past (standing t) t ∥₁
+    undo_past = subst (λ (u : State). ∥ Past (standing u) u ∥₁) (sym is) (∥∥₁_map p (λ q. (undoes s h q).past))
 
   pub some_by_past : 1 ≤ s.parts
   some_by_past = ∥∥₁_elim p le_prop (λ q. some_parts s (past_tidy (standing s) s q))
@@ -230,17 +254,19 @@ module _ (s : State) (p : ∥ Past (standing s) s ∥₁) where
   few_by_past = ∥∥₁_elim p le_prop (λ q. few_parts s (past_tidy (standing s) s q))
 
   module _ (x : Option Step) (l : Legal s x) where
-    pub step_past : ∥ Past (standing (redone s x)) (redone s x) ∥₁
-    step_past = ∥∥₁_map p (λ q. subst (λ k. Past k (redone s x)) (sym (standing_redone s x l ∙ add-one (standing s))) (past_more (standing s) s x q l))
-
-    pub step_undone : undone (redone s x) ≡ s
-    step_undone = ∥∥₁_elim p (Coded-set the_row.coded _ _) (λ q. undone_redone s (past_tidy (standing s) s q) x l)
-
-    pub step_fewer : open_count (view_of (redone s x)) < open_count (view_of s)
-    step_fewer = ∥∥₁_elim p le_prop (λ q. fewer_redone s (past_tidy (standing s) s q) x l)
-
     pub step_room : standing s < max_steps
     step_room = ∥∥₁_elim p le_prop (λ q. room_for s (past_tidy (standing s) s q) x l)
+
+    -- t is s after that step
+    module _ (t : State) (is : t ≡ redone s x) where
+      pub step_past : ∥ Past (standing t) t ∥₁
+      step_past = subst (λ (u : State). ∥ Past (standing u) u ∥₁) (sym is) (∥∥₁_map p (λ q. subst (λ k. Past k (redone s x)) (sym (standing_redone s x l ∙ add-one (standing s))) (past_more (standing s) s x q l)))
+
+      pub step_fewer : open_count (view_of t) < open_count (view_of s)
+      step_fewer = ∥∥₁_elim p le_prop (λ q. subst (λ (u : State). open_count (view_of u) < open_count (view_of s)) (sym is) (fewer_redone s (past_tidy (standing s) s q) x l))
+
+      pub step_stays : Stays s t
+      step_stays = subst (Stays s) (sym is) (stays_step s (redone s x) (∥∥₁_elim p (Coded-set the_row.coded _ _) (λ q. undone_redone s (past_tidy (standing s) s q) x l)) (standing_redone s x l))
 
   module _ (a b : ℕ) (free : is_open (view_of s) a b ≡ true) where
     pub a_in : a < made s
@@ -279,25 +305,3 @@ module _ (s : State) (p : ∥ Past (standing s) s ∥₁) where
 
   pub made_is : made s ≡ next (view_of s)
   made_is = ∥∥₁_elim p (Coded-set coded_ℕ _ _) (λ q. (past_tidy (standing s) s q).made_next)
-
--- What a step adds is taken back on the way to any earlier mark.
-pub back_one : (mark : ℕ) (s t : State) → undone t ≡ s → standing t ≡ standing s + 1 → mark ≤ standing s → taken_back mark t ≡ taken_back mark s
-back_one mark s t e f h =
-    let n : standing t - mark ≡ suc (standing s - mark) = omega (arith, f) in
-    ap (λ k. undone_times k t) n ∙ ap (undone_times (standing s - mark)) e
-
-pub back_none : (mark : ℕ) (s : State) → standing s ≤ mark → taken_back mark s ≡ s
-back_none mark s h = let n : standing s - mark ≡ 0 = omega arith in ap (λ k. undone_times k s) n
-
-pub stays_step : (s t : State) → undone t ≡ s → standing t ≡ standing s + 1 → Stays s t
-stays_step s t e f = record { grows = omega (arith, f); back_to = λ mark h. back_one mark s t e f h }
-
-pub stays_same : (s t : State) → t ≡ s → Stays s t
-stays_same s t e = subst (Stays s) (sym e) (record { grows = omega arith; back_to = λ mark h. refl })
-
-pub stays_on : (s t u : State) → Stays s t → Stays t u → Stays s u
-stays_on s t u x y = record { grows = omega (arith, x.grows, y.grows); back_to = λ mark h. y.back_to mark (omega (arith, x.grows)) ∙ x.back_to mark h }
-
--- For a caller: a trial opened on s stood at t, came back as u, and was let go as v.
-pub let_go : (mark : ℕ) (s t u v : State) → Stays s t → mark ≡ standing s → Stays t u → v ≡ taken_back mark u → v ≡ s
-let_go mark s t u v x e y g = let z = stays_on s t u x y in g ∙ z.back_to mark (omega (arith, e)) ∙ back_none mark s (omega (arith, e))

@@ -1,29 +1,25 @@
-use Rattle.std.proofs.Common.{◌<◌, Some, sym, ap, ◌∙◌, subst}
-use Rattle.view.specs.Law.{open_count}
+use Rattle.std.proofs.Common.{Some, ap, ◌∙◌}
 use Rattle.view.specs.declared.Step.TheVariants.{Join}
-use Rattle.board.specs.State.{standing, view_of}
-use Rattle.board.specs.Trail.{redone, Stays, Past}
-use Rattle.board.specs.declared.state.State.{State}
-use Rattle.board.proofs.Back.{a_in, b_in, made_in, step_room, standing_redone, step_past, step_undone, step_fewer, step_joined, stays_step, some_by_past, few_by_past}
+use Rattle.board.specs.State.{view_of}
+use Rattle.board.proofs.Back.{a_in, b_in, made_in, step_room, step_past, step_fewer, step_stays, step_joined, some_by_past, few_by_past}
 use Rattle.board.proofs.board.Board.put_join.Goals as goal
 
 pub put_join-requires : goal.put_join-requires
-put_join-requires c = (a_in _ c.args.self.now.past _ _ c.requires, (b_in _ c.args.self.now.past _ _ c.requires, (made_in _ c.args.self.now.past _ _ c.requires, step_room _ c.args.self.now.past (Some (Join c.args.a c.args.b)) c.requires)))
+put_join-requires c =
+    let past = c.args.self.now.past in
+    let room = step_room _ past (Some (Join c.args.a c.args.b)) c.requires in
+    (a_in _ past _ _ c.requires, (b_in _ past _ _ c.requires, (made_in _ past _ _ c.requires, room)))
 
 pub invariant_of-self : goal.invariant_of-self
 invariant_of-self c =
-    let p : ∥ Past (standing c.put_join.new.self) c.put_join.new.self ∥₁ = subst (λ (s : State). ∥ Past (standing s) s ∥₁) (sym c.put_join.ensures) (step_past _ c.args.self.now.past (Some (Join c.args.a c.args.b)) c.requires) in
+    let p = step_past _ c.args.self.now.past (Some (Join c.args.a c.args.b)) c.requires _ c.put_join.ensures in
     record { some = some_by_past _ p; few = few_by_past _ p; past = p }
 
-pub returns : goal.returns
-returns c =
-    let s = c.args.self.now.state in
-    let past = c.args.self.now.past in
-    let step = Some (Join c.args.a c.args.b) in
-    let is = c.put_join.ensures in
-    record {
-      view = ap view_of is ∙ step_joined s past c.args.a c.args.b c.requires;
-      more = ap standing is ∙ standing_redone s step c.requires;
-      fewer = subst (λ (t : State). open_count (view_of t) < open_count (view_of s)) (sym is) (step_fewer s past step c.requires);
-      stays = subst (Stays s) (sym is) (stays_step s (redone s step) (step_undone s past step c.requires) (standing_redone s step c.requires));
-    }
+pub returns-clause-view : goal.returns-clause-view
+returns-clause-view c = ap view_of c.put_join.ensures ∙ step_joined _ c.args.self.now.past _ _ c.requires
+
+pub returns-clause-fewer : goal.returns-clause-fewer
+returns-clause-fewer c = step_fewer _ c.args.self.now.past (Some (Join c.args.a c.args.b)) c.requires _ c.put_join.ensures
+
+pub returns-clause-stays : goal.returns-clause-stays
+returns-clause-stays c = step_stays _ c.args.self.now.past (Some (Join c.args.a c.args.b)) c.requires _ c.put_join.ensures
