@@ -4,7 +4,7 @@ use Rattle.std.specs.List.{range_with_len}
 use Rattle.std.proofs.lemmas.List.FromFn.{get_or-map-range_with_len, length-map-range_with_len}
 use Rattle.std.proofs.lemmas.List.{get_or_past}
 use Rattle.std.proofs.lemmas.List.Elements.{All-from_get_or}
-use Rattle.std.proofs.lemmas.Bool.{cases_lt, cases_Bool, cases_order, eqb-true, ltb-true, ltb-false, lt-ltb, le-ltb, and_left, and_right}
+use Rattle.std.proofs.lemmas.Bool.{cases_lt, cases_Bool, cases_order, eqb-true, ltb-true, ltb-false, lt-ltb, le-ltb, and_parts, and_left}
 use Rattle.amount.specs.Kind.{Kind, Laws}
 use Rattle.job.specs.Job.{Job, max_parts, mark_at, marked, Sound}
 use Rattle.view.specs.Good.{Good}
@@ -20,7 +20,7 @@ use Rattle.board.specs.Trail.{part_id, started, Tidy}
 use Rattle.board.specs.declared.state.Id.{Id}
 use Rattle.board.specs.declared.state.State.{State}
 use Rattle.board.proofs.Flags.{length-flags, flag_is}
-use Rattle.board.proofs.Views.{aside_symmetric}
+use Rattle.board.proofs.Views.{guarded, aside_symmetric}
 
 -- as many numbers below n as n says, counted from s
 all_below : (n s m : ℕ) → n ≤ s + m → length (filter (λ i. ltb i n) (range_with_len s m)) ≡ n - s
@@ -86,19 +86,12 @@ module _ {A : Type 0} (k : Kind A) (job : Job A) (sound : Sound k job) where
       go (inr (inr h)) = below i j p h
 
   holds_at : (i p : ℕ) → (is_live s i && is_member s i p) ≡ (ltb i n && eqb i p)
-  holds_at i p = ap (λ x. x && is_member s i p) (live_at i) ∙ go (cases_lt i n)
-    where
-      go : (i < n) ⊎ (n ≤ i) → (ltb i n && is_member s i p) ≡ (ltb i n && eqb i p)
-      go (inl h) = ap (λ x. ltb i n && x) (member_at i p h)
-      go (inr h) = and_left (ltb i n) _ (le-ltb i n h) ∙ sym (and_left (ltb i n) _ (le-ltb i n h))
+  holds_at i p = ap (λ x. x && is_member s i p) (live_at i) ∙ guarded (ltb i n) (is_member s i p) (eqb i p) (λ e. member_at i p (ltb-true i n e))
 
   apart_at : (i j : ℕ) → ((is_live s i && is_live s j) && is_aside s i j) ≡ ((ltb i n && ltb j n) && marked job i j)
-  apart_at i j = ap₂ (λ x y. (x && y) && is_aside s i j) (live_at i) (live_at j) ∙ go (cases_lt i n) (cases_lt j n)
-    where
-      go : (i < n) ⊎ (n ≤ i) → (j < n) ⊎ (n ≤ j) → ((ltb i n && ltb j n) && is_aside s i j) ≡ ((ltb i n && ltb j n) && marked job i j)
-      go (inl p) (inl q) = ap (λ x. (ltb i n && ltb j n) && x) (aside_at i j p q)
-      go (inr p) y = let e = and_left (ltb i n) (ltb j n) (le-ltb i n p) in and_left _ _ e ∙ sym (and_left _ _ e)
-      go (inl p) (inr q) = let e = and_right (ltb i n) (ltb j n) (le-ltb j n q) in and_left _ _ e ∙ sym (and_left _ _ e)
+  apart_at i j =
+      ap₂ (λ x y. (x && y) && is_aside s i j) (live_at i) (live_at j)
+      ∙ guarded (ltb i n && ltb j n) (is_aside s i j) (marked job i j) (λ e. let h = and_parts (ltb i n) (ltb j n) e in aside_at i j (ltb-true i n h.0) (ltb-true j n h.1))
 
   pub view_started : view_of s ≡ start job
   unfolding view_of started

@@ -6,9 +6,10 @@ use base.Stored.{Coded-set, coded_ℕ}
 use Rattle.std.proofs.Math.Bool.{or-false, and-true}
 use Rattle.std.proofs.Math.Nat.{max_comm, min_comm}
 use Rattle.std.proofs.Math.Seq.{get_or-append_seam}
-use Rattle.std.proofs.lemmas.List.{get_or-set_same, get_or-set_other, length-set, set_past, get_or_past, get_or_append_left, length-append}
+use Rattle.std.proofs.lemmas.List.{get_or-set_same, get_or-set_other, length-set, set_past, get_or_past, length-append}
+use Rattle.std.proofs.lemmas.Grind.{common_steps}
 use Rattle.std.proofs.lemmas.List.Elements.{All-get_or}
-use Rattle.std.proofs.lemmas.Bool.{cases_eq, cases_Bool, cases_lt, cond-true, cond-false, eq-eqb, eqb-true, ne_eqb, and_from, and_parts, and_left, and_right, or_cases, or_right}
+use Rattle.std.proofs.lemmas.Bool.{cases_eq, cond-true, cond-false, eq-eqb, ne_eqb, and_from, and_parts, and_left, and_right, or_cases, or_right}
 use Rattle.job.specs.Job.{max_parts}
 use Rattle.view.specs.View.{View, next, is_open}
 use Rattle.view.specs.Steps.{is_other, joined_apart, joined, separated}
@@ -32,35 +33,25 @@ view_set v w p q = λ k i. record {
 
 -- one id written anew: what it has as before, every id has as before
 pub kept : {X : Type 0} (f : Id → X) (ids : List Id) (i : ℕ) (id : Id) → f id ≡ f (get_or ids i no_id) → (k : ℕ) → f (get_or (set ids i id) k no_id) ≡ f (get_or ids k no_id)
-kept {X} f ids i id same k = go (cases_eq k i) (cases_lt i (length ids))
-  where
-    go : (k ≡ i) ⊎ (k ≢ i) → (i < length ids) ⊎ (length ids ≤ i) → f (get_or (set ids i id) k no_id) ≡ f (get_or ids k no_id)
-    go (inl e) (inl h) = ap (λ j. f (get_or (set ids i id) j no_id)) e ∙ ap f (get_or-set_same ids i id no_id h) ∙ same ∙ ap (λ j. f (get_or ids j no_id)) (sym e)
-    go (inl e) (inr h) = ap (λ l. f (get_or l k no_id)) (set_past ids i id h)
-    go (inr d) y = ap f (get_or-set_other ids i k id no_id d)
+kept f ids i id same k = grind (arith, common_steps, set_past)
 
 live_written : (ids : List Id) (i : ℕ) (live : Bool) (k : ℕ) → i < length ids → (get_or (with_live ids i live) k no_id).live ≡ cond (eqb k i) live (get_or ids k no_id).live
-live_written ids i live k h = go (cases_eq k i)
-  where
-    go : (k ≡ i) ⊎ (k ≢ i) → (get_or (with_live ids i live) k no_id).live ≡ cond (eqb k i) live (get_or ids k no_id).live
-    go (inl e) =
-        ap (λ j. (get_or (with_live ids i live) j no_id).live) e ∙ ap (λ id. id.live) (get_or-set_same ids i _ no_id h)
-        ∙ sym (cond-true (eqb k i) _ _ (eq-eqb k i e))
-    go (inr d) = ap (λ id. id.live) (get_or-set_other ids i k _ no_id d) ∙ sym (cond-false (eqb k i) _ _ (ne_eqb k i d))
+live_written ids i live k h = grind (arith, common_steps)
 
 flag_written : (row : List Bool) (i k : ℕ) → i < length row → get_or (set row i true) k false ≡ (get_or row k false || eqb k i)
-flag_written row i k h = go (cases_eq k i)
-  where
-    go : (k ≡ i) ⊎ (k ≢ i) → get_or (set row i true) k false ≡ (get_or row k false || eqb k i)
-    go (inl e) = ap (λ j. get_or (set row i true) j false) e ∙ get_or-set_same row i true false h ∙ sym (or_right _ _ (eq-eqb k i e))
-    go (inr d) = get_or-set_other row i k true false d ∙ sym (ap (λ x. get_or row k false || x) (ne_eqb k i d) ∙ or-false _)
+flag_written row i k h = grind (arith, common_steps)
 
 before_last : {X : Type 0} (xs : List X) (x d : X) (i : ℕ) → i ≢ length xs → get_or (xs ++ x ∷ []) i d ≡ get_or xs i d
-before_last {X} xs x d i other = go (cases_lt i (length xs))
-  where
-    go : (i < length xs) ⊎ (length xs ≤ i) → get_or (xs ++ x ∷ []) i d ≡ get_or xs i d
-    go (inl h) = get_or_append_left xs (x ∷ []) d i h
-    go (inr h) = get_or_past (xs ++ x ∷ []) i d (omega (arith, length-append xs (x ∷ []))) ∙ sym (get_or_past xs i d h)
+before_last xs x d i other = grind (arith, common_steps)
+
+-- two tests under a third need be equal only where that one passes
+pub guarded : (guard x y : Bool) → (guard ≡ true → x ≡ y) → (guard && x) ≡ (guard && y)
+guarded true x y e = e refl
+guarded false x y e = refl
+
+-- a test made wider by one that passes only where the guard does
+widened : (guard x more : Bool) → (more ≡ true → guard ≡ true) → (guard && (x || more)) ≡ ((guard && x) || more)
+widened guard x more h = grind arith
 
 -- off where either was turned off
 off_both : (x p q : Bool) → cond q false (cond p false x) ≡ (x && (not p && not q))
@@ -202,20 +193,12 @@ module _ (s : State) (t : Tidy s) (a b : ℕ) (free : is_open (view_of s) a b �
           ∙ sym (cond-true (eqb i (next v)) _ _ (eq-eqb i (next v) (e ∙ t.made_next)))
       go (inr d) =
           ap₂ (λ x y. x && y) (live_elsewhere i d) (ap (λ (l : List Bool). get_or l p false) (stays (λ id. id.members) (λ _. refl) i d))
-          ∙ kept (cases_Bool (is_other v a b i))
+          ∙ guarded (is_other v a b i) (is_member s i p) (v.holds i p) (λ q. sym (holds_is s i p (other_facts v a b i q).0))
           ∙ sym (cond-false (eqb i (next v)) _ _ (ne_eqb i (next v) (λ e. d (e ∙ sym t.made_next))))
-        where
-          kept : (is_other v a b i ≡ true) ⊎ (is_other v a b i ≡ false) → (is_other v a b i && is_member s i p) ≡ (is_other v a b i && v.holds i p)
-          kept (inl q) = ap (λ x. is_other v a b i && x) (sym (holds_is s i p (other_facts v a b i q).0))
-          kept (inr q) = and_left (is_other v a b i) _ q ∙ sym (and_left (is_other v a b i) _ q)
 
   -- the new id and another one
   beside : (j : ℕ) (x : Bool) → (is_other v a b j ≡ true → x ≡ (is_aside s a j || is_aside s b j)) → (is_other v a b j && x) ≡ (is_other v a b j && joined_apart v a b j)
-  beside j x h = go (cases_Bool (is_other v a b j))
-    where
-      go : (is_other v a b j ≡ true) ⊎ (is_other v a b j ≡ false) → (is_other v a b j && x) ≡ (is_other v a b j && joined_apart v a b j)
-      go (inl q) = ap (λ y. is_other v a b j && y) (h q ∙ sym (ap₂ ◌||◌ (apart_is s a j open_pair.live_a (other_facts v a b j q).0) (apart_is s b j open_pair.live_b (other_facts v a b j q).0)))
-      go (inr q) = and_left (is_other v a b j) _ q ∙ sym (and_left (is_other v a b j) _ q)
+  beside j x h = guarded (is_other v a b j) x (joined_apart v a b j) (λ q. h q ∙ sym (ap₂ ◌||◌ (apart_is s a j open_pair.live_a (other_facts v a b j q).0) (apart_is s b j open_pair.live_b (other_facts v a b j q).0)))
 
   apart_after : (i j : ℕ) → ((is_live after i && is_live after j) && is_aside after i j) ≡ (joined v a b).apart i j
   apart_after i j = go (cases_eq i (made s)) (cases_eq j (made s))
@@ -226,10 +209,10 @@ module _ (s : State) (t : Tidy s) (a b : ℕ) (free : is_open (view_of s) a b �
       off_next : (k : ℕ) → k ≢ made s → eqb k (next v) ≡ false
       off_next k d = ne_eqb k (next v) (λ e. d (e ∙ sym t.made_next))
 
-      both : (is_other v a b i ≡ true) ⊎ (is_other v a b i ≡ false) → (is_other v a b j ≡ true) ⊎ (is_other v a b j ≡ false) → ((is_other v a b i && is_other v a b j) && is_aside after i j) ≡ ((is_other v a b i && is_other v a b j) && v.apart i j)
-      both (inl p) (inl q) = ap (λ x. (is_other v a b i && is_other v a b j) && x) (aside_kept i j (other_below i p) (other_below j q) ∙ sym (apart_is s i j (other_facts v a b i p).0 (other_facts v a b j q).0))
-      both (inr p) q = let e = and_left (is_other v a b i) (is_other v a b j) p in and_left _ _ e ∙ sym (and_left _ _ e)
-      both (inl p) (inr q) = let e = and_right (is_other v a b i) (is_other v a b j) q in and_left _ _ e ∙ sym (and_left _ _ e)
+      both : ((is_other v a b i && is_other v a b j) && is_aside after i j) ≡ ((is_other v a b i && is_other v a b j) && v.apart i j)
+      both = guarded (is_other v a b i && is_other v a b j) (is_aside after i j) (v.apart i j) (λ q.
+          let o = and_parts (is_other v a b i) (is_other v a b j) q in
+          aside_kept i j (other_below i o.0) (other_below j o.1) ∙ sym (apart_is s i j (other_facts v a b i o.0).0 (other_facts v a b j o.1).0))
 
       go : (i ≡ made s) ⊎ (i ≢ made s) → (j ≡ made s) ⊎ (j ≢ made s) → ((is_live after i && is_live after j) && is_aside after i j) ≡ (joined v a b).apart i j
       go (inl e) (inl f) =
@@ -247,7 +230,7 @@ module _ (s : State) (t : Tidy s) (a b : ℕ) (free : is_open (view_of s) a b �
           ∙ sym (cond-false (eqb i (next v)) _ _ (off_next i d) ∙ cond-true (eqb j (next v)) _ _ (at_next j f))
       go (inr d) (inr f) =
           ap₂ (λ x y. (x && y) && is_aside after i j) (live_elsewhere i d) (live_elsewhere j f)
-          ∙ both (cases_Bool (is_other v a b i)) (cases_Bool (is_other v a b j))
+          ∙ both
           ∙ sym (cond-false (eqb i (next v)) _ _ (off_next i d) ∙ cond-false (eqb j (next v)) _ _ (off_next j f))
 
   pub view_joined : view_of after ≡ joined v a b
@@ -291,23 +274,14 @@ module _ (s : State) (t : Tidy s) (a b : ℕ) (free : is_open (view_of s) a b �
   holds_later : (i p : ℕ) → (is_live later i && is_member later i p) ≡ (is_live s i && is_member s i p)
   holds_later i p = ap₂ ◌&&◌ (live_later i) (ap (λ (l : List Bool). get_or l p false) (keeps (λ id. id.members) (λ _ _. refl) i))
 
+  pair_live : (i j : ℕ) → is_pair i j ≡ true → (is_live s i && is_live s j) ≡ true
+  pair_live i j e = let la = sym (live_is s a) ∙ open_pair.live_a in let lb = sym (live_is s b) ∙ open_pair.live_b in grind arith
+
   apart_later : (i j : ℕ) → ((is_live later i && is_live later j) && is_aside later i j) ≡ (separated v a b).apart i j
   unfolding view_of
-  apart_later i j = ap₂ ◌&&◌ (ap₂ ◌&&◌ (live_later i) (live_later j)) (aside_later i j) ∙ go (cases_Bool (is_pair i j))
-    where
-      first : (eqb i a && eqb j b) ≡ true → (is_live s i && is_live s j) ≡ true
-      first e = let m = and_parts (eqb i a) (eqb j b) e in and_from (is_live s i) (is_live s j) (ap (is_live s) (eqb-true i a m.0) ∙ open_pair.live_a) (ap (is_live s) (eqb-true j b m.1) ∙ open_pair.live_b)
-
-      second : (eqb i b && eqb j a) ≡ true → (is_live s i && is_live s j) ≡ true
-      second e = let m = and_parts (eqb i b) (eqb j a) e in and_from (is_live s i) (is_live s j) (ap (is_live s) (eqb-true i b m.0) ∙ open_pair.live_b) (ap (is_live s) (eqb-true j a m.1) ∙ open_pair.live_a)
-
-      both_live : ((eqb i a && eqb j b) ≡ true) ⊎ ((eqb i b && eqb j a) ≡ true) → (is_live s i && is_live s j) ≡ true
-      both_live (inl e) = first e
-      both_live (inr e) = second e
-
-      go : (is_pair i j ≡ true) ⊎ (is_pair i j ≡ false) → ((is_live s i && is_live s j) && (is_aside s i j || is_pair i j)) ≡ (((is_live s i && is_live s j) && is_aside s i j) || is_pair i j)
-      go (inl e) = and_from _ _ (both_live (or_cases (eqb i a && eqb j b) (eqb i b && eqb j a) e)) (or_right (is_aside s i j) (is_pair i j) e) ∙ sym (or_right _ (is_pair i j) e)
-      go (inr e) = ap (λ x. (is_live s i && is_live s j) && x) (ap (λ x. is_aside s i j || x) e ∙ or-false _) ∙ sym (ap (λ x. ((is_live s i && is_live s j) && is_aside s i j) || x) e ∙ or-false _)
+  apart_later i j =
+      ap₂ ◌&&◌ (ap₂ ◌&&◌ (live_later i) (live_later j)) (aside_later i j)
+      ∙ widened (is_live s i && is_live s j) (is_aside s i j) (is_pair i j) (pair_live i j)
 
   pub view_separated : view_of later ≡ separated v a b
   unfolding view_of
