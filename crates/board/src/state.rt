@@ -11,10 +11,10 @@ use std::array;
 use view::Step;
 
 // Ids are below this: a job has at most MAX_PARTS parts, and each join makes one id of two.
-pub(crate) const MAX_IDS: usize = 2 * MAX_PARTS - 1;
+const MAX_IDS: usize = 2 * MAX_PARTS - 1;
 
 // A step settles at least one pair of parts, so no more than these stand.
-pub(crate) const MAX_STEPS: usize = MAX_PARTS * (MAX_PARTS - 1) / 2;
+const MAX_STEPS: usize = MAX_PARTS * (MAX_PARTS - 1) / 2;
 
 // What belongs to one id.
 #[derive(Clone, Copy, Default)]

@@ -32,7 +32,7 @@ impl Board {
         Ok(())
     }
 
-    // The two become one: on the arrays.
+    // The two become one, in what the board holds.
     fn put_join(&mut self, a: usize, b: usize)
         requires { is_open (view_of self.old.state) a b ≡ true }
         ensures view { view_of self.new.state ≡ joined (view_of self.old.state) a b }
@@ -43,7 +43,7 @@ impl Board {
         self.state.put_join(a, b);
     }
 
-    // The two become apart: on the arrays.
+    // The two become apart, in what the board holds.
     fn put_separation(&mut self, a: usize, b: usize)
         requires { is_open (view_of self.old.state) a b ≡ true }
         ensures view { view_of self.new.state ≡ separated (view_of self.old.state) a b }
