@@ -1,3 +1,4 @@
+pub mod Flags
 pub mod Views
 pub mod Back
 pub mod Written

@@ -10,7 +10,7 @@ use Rattle.view.proofs.Playing.{reached_by_steps}
 use Rattle.view.specs.Play.{Position, loaded, is_free, stepped, played, AllFree}
 use Rattle.view.specs.declared.Step.{Step}
 use Rattle.board.specs.Played.{refusal_at, position, Stepped, stood, Stands}
-use Rattle.board.specs.State.{view_of}
+use Rattle.board.specs.State.{standing, view_of}
 use Rattle.board.specs.declared.playing.RefusedStep.{RefusedStep}
 use Rattle.board.specs.declared.refusals.StepRefusal.{StepRefusal}
 use Rattle.board.specs.declared.state.State.{State}
@@ -26,7 +26,7 @@ module _ {A : Type 0} (k : Kind A) where
 
   -- the first m steps were taken, and lead here
   pub record SoFar (from : Position A) (steps : List Step) (m : ℕ) (s : State) (cells : List A) (booked : A) : Type 0 where
-    pub count : s.standing ≡ m
+    pub count : standing s ≡ m
     pub all_free : AllFree k from (take m steps)
     pub leads : position s cells booked ≡ played k from (take m steps)
 
@@ -44,10 +44,10 @@ module _ {A : Type 0} (k : Kind A) where
   -- what the loop leaves
   pub record Ended (from : Position A) (steps : List Step) (s : State) (cells : List A) (booked : A) (refused : Option RefusedStep) : Type 0 where
     pub stands : Stands k from steps (position s cells booked) refused
-    pub count : s.standing ≡ length (stood steps refused)
+    pub count : standing s ≡ length (stood steps refused)
 
   -- the loop begins, and ends in one of two ways
-  pub begins : (steps : List Step) (s : State) (cells : List A) (booked : A) → s.standing ≡ 0 → SoFar (position s cells booked) steps 0 s cells booked
+  pub begins : (steps : List Step) (s : State) (cells : List A) (booked : A) → standing s ≡ 0 → SoFar (position s cells booked) steps 0 s cells booked
   begins steps s cells booked e = record { count = e; all_free = tt; leads = refl }
 
   pub ends_all : (from : Position A) (steps : List Step) (m : ℕ) (s : State) (cells : List A) (booked : A) → m ≡ length steps → SoFar from steps m s cells booked → Ended from steps s cells booked None

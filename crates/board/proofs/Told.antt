@@ -22,7 +22,7 @@ use Rattle.view.specs.View.{View, width, next, is_open, Roomy}
 use Rattle.job.specs.Answers.{refusal_of}
 use Rattle.board.specs.Answers.{is_roomy, load_checked, load_rules, are_two, step_checked, step_rules, join_answer, separation_answer, remaining_answer, remaining_rules, if_done, WhenDone, Leaves, Carries}
 use Rattle.board.specs.Refusals.{load_number, step_number, remaining_number}
-use Rattle.board.specs.State.{view_of}
+use Rattle.board.specs.State.{standing, view_of}
 use Rattle.board.specs.Trail.{Past}
 use Rattle.board.specs.declared.refusals.RemainingRefusal.{RemainingRefusal}
 use Rattle.board.specs.declared.refusals.RemainingRefusal.TheVariants as remains
@@ -86,13 +86,13 @@ module _ {A : Type 0} (k : Kind A) (v : View) (cells : List A) (a b : ℕ) where
   pub join_carries : (r : Result (ℕ × A) StepRefusal) (before after : State) (cells' : List A) → r ≡ join_answer k v cells a b → Leaves r before (joined v a b) after → cells' ≡ if_done r (joined_cells k v cells a b) cells → WhenDone r (λ x. Carries k v cells (view_of after) cells' x.1)
   join_carries (Ok x) before after cells' e l f =
       let t = taken v cells a b (next v, join_booked k v cells a b) x e in
-      λ job booked reached. subst₂ (λ u c. Reached k job u c (k.sum booked x.1)) (sym l.0) (sym f) (subst (λ m. Reached k job (joined v a b) (joined_cells k v cells a b) (k.sum booked m)) (sym (ap (λ y. y.1) t.is)) (by_join v cells booked a b reached t.room t.free))
+      λ job booked reached. subst₂ (λ u c. Reached k job u c (k.sum booked x.1)) (sym l.view) (sym f) (subst (λ m. Reached k job (joined v a b) (joined_cells k v cells a b) (k.sum booked m)) (sym (ap (λ y. y.1) t.is)) (by_join v cells booked a b reached t.room t.free))
   join_carries (Err refusal) before after cells' e l f = tt
 
   pub separation_carries : (r : Result A StepRefusal) (before after : State) → r ≡ separation_answer k v cells a b → Leaves r before (separated v a b) after → WhenDone r (λ x. Carries k v cells (view_of after) cells x)
   separation_carries (Ok x) before after e l =
       let t = taken v cells a b (separation_booked k v cells a b) x e in
-      λ job booked reached. subst (λ u. Reached k job u cells (k.sum booked x)) (sym l.0) (subst (λ m. Reached k job (separated v a b) cells (k.sum booked m)) (sym t.is) (by_separation v cells booked a b reached t.free))
+      λ job booked reached. subst (λ u. Reached k job u cells (k.sum booked x)) (sym l.view) (subst (λ m. Reached k job (separated v a b) cells (k.sum booked m)) (sym t.is) (by_separation v cells booked a b reached t.free))
   separation_carries (Err refusal) before after e l = tt
 
 -- Loading.
@@ -146,9 +146,9 @@ respects_prop v labels x y = λ z. record {
 decides_prop : (b : Bool) (P : Type 0) → IsProp P → IsProp (Decides b P)
 decides_prop b P prop = ×_prop (Π_prop (λ _. prop)) (Π_prop (λ _. Bool-set b true))
 
-module _ (s : State) (past : ∥ Past s.standing s ∥₁) (labels : List ℕ) where
+module _ (s : State) (past : ∥ Past (standing s) s ∥₁) (labels : List ℕ) where
   respected_told : Decides (is_respected (view_of s) labels) (RespectsBoard (view_of s) labels)
-  respected_told = ∥∥₁_elim past (decides_prop _ _ (respects_prop (view_of s) labels)) (λ p. respected_tells (view_of s) labels (past_tidy s.standing s p).well_formed)
+  respected_told = ∥∥₁_elim past (decides_prop _ _ (respects_prop (view_of s) labels)) (λ p. respected_tells (view_of s) labels (past_tidy (standing s) s p).well_formed)
 
   module _ {A : Type 0} (k : Kind A) (cells : List A) where
     remaining_tells : FirstBroken (remaining_rules (view_of s) labels) (refused_with remaining_number (remaining_answer k (view_of s) cells labels))

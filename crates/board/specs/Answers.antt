@@ -11,7 +11,7 @@ use Rattle.view.specs.Reached.{Reached}
 use Rattle.view.specs.Remaining.{RespectsBoard, remaining, is_respected}
 use Rattle.view.specs.Steps.{start, join_booked, separation_booked}
 use Rattle.view.specs.View.{View, width, next, Roomy}
-use Rattle.board.specs.State.{view_of}
+use Rattle.board.specs.State.{standing, view_of}
 use Rattle.board.specs.declared.refusals.LoadRefusal.{LoadRefusal}
 use Rattle.board.specs.declared.refusals.LoadRefusal.TheVariants as loading
 use Rattle.board.specs.declared.refusals.RemainingRefusal.{RemainingRefusal}
@@ -75,9 +75,15 @@ join_answer k v cells a b = refuse_or (λ refusal. refusal) (step_checked v cell
 abbrev pub separation_answer : {A : Type 0} → Kind A → View → List A → ℕ → ℕ → Result A StepRefusal
 separation_answer k v cells a b = refuse_or (λ refusal. refusal) (step_checked v cells a b) (Ok (separation_booked k v cells a b))
 
--- what a step leaves of a board: taken, the view that its rule gives, one step more, and fewer open pairs; refused, the board as it was
+-- what a taken step makes of a board: the view that its rule gives, one step more, and fewer open pairs
+pub record StepsTo (before : State) (stepped : View) (after : State) : Type 0 where
+  pub view : view_of after ≡ stepped
+  pub more : standing after ≡ standing before + 1
+  pub fewer : open_count (view_of after) < open_count (view_of before)
+
+-- what a step leaves of a board: that if it was taken; the board as it was if it was refused
 abbrev pub Leaves : {T : Type 0} → Result T StepRefusal → State → View → State → Type 0
-Leaves (Ok _) before stepped after = (view_of after ≡ stepped) × ((after.standing ≡ before.standing + 1) × (open_count (view_of after) < open_count (view_of before)))
+Leaves (Ok _) before stepped after = StepsTo before stepped after
 Leaves (Err _) before stepped after = after ≡ before
 
 -- a step that books this leads from reached boards to reached boards

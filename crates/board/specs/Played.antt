@@ -10,7 +10,7 @@ use Rattle.view.specs.View.{View}
 use Rattle.view.specs.declared.Step.{Step}
 use Rattle.view.specs.declared.Step.TheVariants.{Join, Separation}
 use Rattle.board.specs.Answers.{step_checked}
-use Rattle.board.specs.State.{view_of}
+use Rattle.board.specs.State.{standing, view_of}
 use Rattle.board.specs.declared.playing.RefusedStep.{RefusedStep}
 use Rattle.board.specs.declared.refusals.StepRefusal.{StepRefusal}
 use Rattle.board.specs.declared.state.State.{State}
@@ -26,7 +26,7 @@ position s cells booked = record { view = view_of s; cells = cells; booked = boo
 
 -- one step, kept or refused: what it leaves
 abbrev pub Stepped : {A : Type 0} → Kind A → State → List A → Step → Result A StepRefusal → State → List A → Type 0
-Stepped {A} k s cells step (Ok amount) t cells' = ((booked : A) → (is_free (position s cells booked) step ≡ true) × (position t cells' (k.sum booked amount) ≡ stepped k (position s cells booked) step)) × (t.standing ≡ s.standing + 1)
+Stepped {A} k s cells step (Ok amount) t cells' = ((booked : A) → (is_free (position s cells booked) step ≡ true) × (position t cells' (k.sum booked amount) ≡ stepped k (position s cells booked) step)) × (standing t ≡ standing s + 1)
 Stepped k s cells step (Err refusal) t cells' = (t ≡ s) × ((cells' ≡ cells) × (refusal_at (view_of s) cells step ≡ Err refusal))
 
 -- the steps that stand: all of the list, or those before the one that was refused

@@ -7,6 +7,6 @@ use Rattle.view.specs.Law.{pair_count}
 abbrev pub max_ids : ℕ
 max_ids = 2 * max_parts - 1
 
--- each step that stands settled at least one pair of parts
+-- no more steps stand: each settled at least one pair of parts
 abbrev pub max_steps : ℕ
 max_steps = pair_count max_parts

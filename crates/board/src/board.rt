@@ -1,6 +1,6 @@
 ghost use Rattle.std.specs.Prelude.{◌≡◌, ◌≤◌};
 ghost use Rattle.job.specs.Job.{max_parts};
-ghost use Rattle.board.specs.State.{view_of};
+ghost use Rattle.board.specs.State.{standing, view_of};
 ghost use Rattle.board.specs.Trail.{Past};
 
 use crate::state::State;
@@ -11,11 +11,12 @@ pub struct Board {
     pub(crate) state: State,
     ghost some: { 1 ≤ state.parts },
     ghost few: { state.parts ≤ max_parts },
-    ghost past: { ∥ Past state.standing state ∥₁ },
+    ghost past: { ∥ Past (standing state) state ∥₁ },
 }
 
 impl Board {
     // How many parts there are.
+    #[tactic(auto, unfolding(crate::specs::State::view_of))]
     pub fn parts(&self) -> usize
         ensures { result ≡ (view_of self.now.state).parts }
     {

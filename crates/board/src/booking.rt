@@ -52,7 +52,7 @@ impl Board {
         ensures { cells.new ≡ joined_cells A.Amount.kind (view_of self.now.state) cells.old a b }
     {
         let width = self.width();
-        let id = self.state.made;
+        let id = self.state.ids.len();
         for w in 0..width {
             if self.is_other(a, b, w) {
                 let sum = self.amount(cells, a, w).sum(self.amount(cells, b, w));

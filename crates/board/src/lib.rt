@@ -1,7 +1,6 @@
 // Boards: jobs in the course of being grouped, with steps that are tried, kept or taken back.
 #![tactic(auto)]
 
-mod arrays;
 mod board;
 mod booking;
 mod cells;

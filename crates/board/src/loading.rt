@@ -1,22 +1,24 @@
 // Loading a job onto a board.
-ghost use Rattle.std.specs.Prelude.{◌≡◌, ◌*◌, ◌<◌, ◌≤◌, false, length, IfOk};
+ghost use Rattle.std.specs.Prelude.{◌≡◌, ◌&&◌, nat_lt, IfOk};
 ghost use Rattle.job.specs.Answers.{refused_with, refusal_of, FirstBroken};
-ghost use Rattle.job.specs.Job.{max_parts, mark_at};
+ghost use Rattle.job.specs.Job.{marked};
 ghost use Rattle.job.specs.Lent.{job_of};
 ghost use Rattle.view.specs.Reached.{Reached};
 ghost use Rattle.view.specs.Steps.{start, loaded_cells, load_booked};
 ghost use Rattle.board.specs.Answers.{if_done, WhenDone, is_roomy, load_checked, load_rules};
 ghost use Rattle.board.specs.Refusals.{load_number};
-ghost use Rattle.board.specs.State.{view_of};
+ghost use Rattle.board.specs.State.{standing, view_of};
+ghost use Rattle.board.specs.Trail.{part_id, started};
 ghost use Rattle.view.specs.View.{Roomy};
-ghost use Rattle.board.specs.Trail.{up_to, started};
 
 use crate::board::Board;
 use crate::cells::put;
 use crate::refusals::LoadRefusal;
-use crate::state::{MAX_IDS, MAX_STEPS, State};
+use crate::state::{Id, State};
 use amount::Amount;
-use job::{Job, MAX_PARTS, SizedJob};
+use arrayvec::ArrayVec;
+use job::{Job, SizedJob};
+use std::array;
 
 // Whether there are cells enough for every pair of ids.
 fn is_roomy<A: Amount>(job: &SizedJob<'_, A>, cells: &[A]) -> bool
@@ -26,39 +28,37 @@ fn is_roomy<A: Amount>(job: &SizedJob<'_, A>, cells: &[A]) -> bool
     cells.len() >= width * width
 }
 
-// The marks of a part with the parts below it.
-fn marked_row(parts: usize, marks: &[bool], i: usize) -> [bool; MAX_IDS]
-    requires { (parts ≤ max_parts) × ((length marks.now ≡ parts * parts) × (i < parts)) }
-    ensures { result ≡ up_to i (mark_at parts marks.now i) false }
+// Whether a part is marked with one below it.
+fn is_marked_below<A: Amount>(job: &Job<'_, A>, part: usize, below: usize) -> bool
+    ensures { result ≡ (nat_lt below part && marked (job_of job.now) part below) }
 {
-    let mut row = [false; MAX_IDS];
-    for j in 0..i {
-        row[j] = marks[i * parts + j];
-    }
-    row
+    below < part && job.is_marked(part, below)
 }
 
-// The arrays of a board with no step yet: each part is alone, and the marked pairs are apart.
-fn start_state(parts: usize, marks: &[bool]) -> State
-    requires { (parts ≤ max_parts) × (length marks.now ≡ parts * parts) }
-    ensures { result ≡ started parts marks.now }
+// The id of a part on a board with no step: it is alone, and apart from the parts below it that it is marked with.
+fn part_id<A: Amount>(job: &Job<'_, A>, part: usize) -> Id
+    ensures { result ≡ part_id (job_of job.now) part }
 {
-    let mut live = [false; MAX_IDS];
-    let mut apart = [[false; MAX_IDS]; MAX_IDS];
-    let mut members = [[false; MAX_PARTS]; MAX_IDS];
-    for i in 0..parts {
-        live[i] = true;
-        apart[i] = marked_row(parts, marks, i);
-        members[i][i] = true;
+    Id {
+        live: true,
+        apart: array::from_fn(|below| is_marked_below(job, part, below)),
+        members: array::from_fn(|other| part == other),
+    }
+}
+
+// A board with no step yet.
+fn start_state<A: Amount>(job: &SizedJob<'_, A>) -> State
+    ensures { result ≡ started (job_of job.now.job) }
+{
+    let parts = job.job.parts;
+    let mut ids = ArrayVec::new();
+    for part in 0..parts {
+        ids.push(part_id(&job.job, part));
     }
     State {
         parts,
-        made: parts,
-        live,
-        apart,
-        members,
-        trail: [None; MAX_STEPS],
-        standing: 0,
+        ids,
+        trail: ArrayVec::new(),
     }
 }
 
@@ -102,13 +102,13 @@ impl Board {
     pub fn load<A: Amount>(job: &Job<'_, A>, cells: &mut [A]) -> Result<Board, LoadRefusal>
         ensures answer { refusal_of result ≡ load_checked A.Amount.kind (job_of job.now) cells.old }
         ensures tells { FirstBroken (load_rules A.Amount.kind (job_of job.now) cells.old) (refused_with load_number result) }
-        ensures board { WhenDone result (λ b. (view_of b.state ≡ start (job_of job.now)) × (b.state.standing ≡ 0)) }
+        ensures board { WhenDone result (λ b. (view_of b.state ≡ start (job_of job.now)) × (standing b.state ≡ 0)) }
         ensures cells { cells.new ≡ if_done result (loaded_cells A.Amount.kind (job_of job.now) cells.old) cells.old }
         ensures reached { WhenDone result (λ b. Reached A.Amount.kind (job_of job.now) (view_of b.state) cells.new (load_booked A.Amount.kind (job_of job.now))) }
     {
         let sized = checked(job, cells)?;
         write_square(&sized, cells);
-        let state = start_state(sized.job.parts, sized.job.marks);
+        let state = start_state(&sized);
         Ok(Board { state })
     }
 }

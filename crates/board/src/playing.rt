@@ -8,7 +8,7 @@ ghost use Rattle.view.specs.Reached.{Reached};
 ghost use Rattle.board.specs.Answers.{WhenDone, WhenRefused, load_checked, load_rules};
 ghost use Rattle.board.specs.Played.{position, Stepped, stood, Stands, Priced};
 ghost use Rattle.board.specs.Refusals.{load_number};
-ghost use Rattle.board.specs.State.{view_of};
+ghost use Rattle.board.specs.State.{standing, view_of};
 
 use crate::board::Board;
 use crate::refusals::{LoadRefusal, StepRefusal};
@@ -51,9 +51,9 @@ fn play_on<A: Amount>(
     before: A,
     steps: &[Step],
 ) -> (A, Option<RefusedStep>)
-    requires { board.old.state.standing ≡ 0 }
+    requires { standing board.old.state ≡ 0 }
     ensures stands { Stands A.Amount.kind (position board.old.state cells.old before) steps.now (position board.new.state cells.new result.0) result.1 }
-    ensures count { board.new.state.standing ≡ length (stood steps.now result.1) }
+    ensures count { standing board.new.state ≡ length (stood steps.now result.1) }
 {
     let mut booked = before;
     for (place, step) in steps.iter().enumerate() {
@@ -77,7 +77,7 @@ pub fn play<A: Amount>(
     ensures tells { FirstBroken (load_rules A.Amount.kind (job_of job.now) cells.old) (refused_with load_number result) }
     ensures cells { WhenRefused result (cells.new ≡ cells.old) }
     ensures stands { WhenDone result (λ p. Stands A.Amount.kind (loaded A.Amount.kind (job_of job.now) cells.old) steps.now (position p.board.state cells.new p.booked) p.refused) }
-    ensures count { WhenDone result (λ p. p.board.state.standing ≡ length (stood steps.now p.refused)) }
+    ensures count { WhenDone result (λ p. standing p.board.state ≡ length (stood steps.now p.refused)) }
     ensures reached { WhenDone result (λ p. Reached A.Amount.kind (job_of job.now) (view_of p.board.state) cells.new p.booked) }
     ensures law { WhenDone result (λ p. Priced A.Amount.kind (job_of job.now) (view_of p.board.state) cells.new p.booked) }
     ensures keeps { WhenDone result (λ p. Kept A.Amount.kind (job_of job.now) (view_of p.board.state) cells.new p.booked) }

@@ -4,12 +4,12 @@ ghost use Rattle.view.specs.View.{width, ids, is_open, amount_in};
 ghost use Rattle.board.specs.State.{view_of};
 
 use crate::board::Board;
-use crate::state::MAX_IDS;
 use amount::Amount;
-use job::{MAX_PARTS, cell};
+use job::cell;
 
 impl Board {
     // Ids are below this; cells are in rows of this length.
+    #[tactic(auto, unfolding(crate::specs::State::view_of))]
     pub fn width(&self) -> usize
         ensures { result ≡ width (view_of self.now.state) }
     {
@@ -20,14 +20,15 @@ impl Board {
     pub fn live_count(&self) -> usize
         ensures { result ≡ length (ids (view_of self.now.state)) }
     {
-        2 * self.state.parts - self.state.made
+        2 * self.state.parts - self.state.ids.len()
     }
 
     // Whether an id is live.
+    #[tactic(auto, unfolding(crate::specs::State::view_of))]
     pub fn is_live(&self, id: usize) -> bool
         ensures { result ≡ (view_of self.now.state).live id }
     {
-        id < MAX_IDS && self.state.live[id]
+        self.state.is_live(id)
     }
 
     // Whether both are live.
@@ -38,6 +39,7 @@ impl Board {
     }
 
     // Whether two ids are live and apart.
+    #[tactic(auto, unfolding(crate::specs::State::view_of))]
     pub fn is_apart(&self, i: usize, j: usize) -> bool
         ensures { result ≡ (view_of self.now.state).apart i j }
     {
@@ -52,13 +54,11 @@ impl Board {
     }
 
     // Whether an id is live and holds a part.
+    #[tactic(auto, unfolding(crate::specs::State::view_of))]
     pub fn holds(&self, id: usize, part: usize) -> bool
         ensures { result ≡ (view_of self.now.state).holds id part }
     {
-        if part >= MAX_PARTS {
-            return false;
-        }
-        self.is_live(id) && self.state.members[id][part]
+        self.is_live(id) && self.state.is_member(id, part)
     }
 
     // The amount of two ids, in the row of the first; a cell that is not there reads as zero.

@@ -1,25 +1,112 @@
-// What a board holds, as plain arrays.
+// What a board holds, steps on it, and steps taken back.
+ghost use Rattle.std.specs.Prelude.{◌≡◌, ◌<◌, Some};
+ghost use Rattle.board.specs.State.{made, is_live, is_aside, is_member};
+ghost use Rattle.board.specs.Trail.{joined_id, with_flag, redone, last_step, undone, Doable, Undoable};
+
+use arrayvec::ArrayVec;
 use job::MAX_PARTS;
+use std::array;
 use view::Step;
 
 // Ids are below this: a job has at most MAX_PARTS parts, and each join makes one id of two.
-pub(crate) const MAX_IDS: usize = 2 * MAX_PARTS - 1;
+const MAX_IDS: usize = 2 * MAX_PARTS - 1;
 
 // A step settles at least one pair of parts, so no more than these stand.
-pub(crate) const MAX_STEPS: usize = MAX_PARTS * (MAX_PARTS - 1) / 2;
+const MAX_STEPS: usize = MAX_PARTS * (MAX_PARTS - 1) / 2;
 
-// What stands on a board. What belongs to an id is written once, when the id is made, so that taking a step back needs no copy; everything beyond the ids that were made and beyond the standing steps is blank.
-#[derive(Clone, Copy)]
+// What belongs to one id.
+#[derive(Clone, Copy, Default)]
+pub(crate) struct Id {
+    pub(crate) live: bool,
+    // of each id below this one: whether the two are apart
+    pub(crate) apart: [bool; MAX_IDS],
+    // of each part: whether this id holds it
+    pub(crate) members: [bool; MAX_PARTS],
+}
+
+// What stands on a board. An id is written when it is made, and later steps change single flags of it, so taking a step back needs no copy.
+#[derive(Drop)]
 pub(crate) struct State {
     pub(crate) parts: usize,
-    // how many ids were made, the parts among them: the next unused one
-    pub(crate) made: usize,
-    pub(crate) live: [bool; MAX_IDS],
-    // row i says of each id j below i whether the two are apart
-    pub(crate) apart: [[bool; MAX_IDS]; MAX_IDS],
-    // row i says of each part whether the id i holds it
-    pub(crate) members: [[bool; MAX_PARTS]; MAX_IDS],
+    // the ids that were made, the parts first; how many they are is the next unused one
+    pub(crate) ids: ArrayVec<Id, MAX_IDS>,
     // the steps that stand, first to last
-    pub(crate) trail: [Option<Step>; MAX_STEPS],
-    pub(crate) standing: usize,
+    pub(crate) trail: ArrayVec<Step, MAX_STEPS>,
+}
+
+impl State {
+    // Whether an id is live.
+    pub(crate) fn is_live(&self, id: usize) -> bool
+        ensures { result ≡ is_live self.now id }
+    {
+        self.ids.get(id).is_some_and(|id| id.live)
+    }
+
+    // Whether the larger of two ids says that they are apart.
+    pub(crate) fn is_aside(&self, i: usize, j: usize) -> bool
+        ensures { result ≡ is_aside self.now i j }
+    {
+        self.ids.get(i.max(j)).is_some_and(|id| id.apart[i.min(j)])
+    }
+
+    // Whether an id holds a part.
+    pub(crate) fn is_member(&self, id: usize, part: usize) -> bool
+        ensures { result ≡ is_member self.now id part }
+    {
+        self.ids
+            .get(id)
+            .is_some_and(|id| id.members.get(part) == Some(&true))
+    }
+
+    // The id made of two: apart from what either is apart from, with the parts of both.
+    fn joined_id(&self, a: usize, b: usize) -> Id
+        ensures { result ≡ joined_id self.now a b }
+    {
+        Id {
+            live: true,
+            apart: array::from_fn(|w| self.is_aside(a, w) || self.is_aside(b, w)),
+            members: array::from_fn(|p| self.is_member(a, p) || self.is_member(b, p)),
+        }
+    }
+
+    // Sets the flag of a pair, which the larger id has.
+    fn put_flag(&mut self, a: usize, b: usize, flag: bool)
+        requires { (a < made self.old) × (b < made self.old) }
+        ensures { self.new ≡ record self.old { ids = record { items = with_flag self.old.ids.items a b flag } } }
+    {
+        self.ids[a.max(b)].apart[a.min(b)] = flag;
+    }
+
+    // Takes a step: the two make way for the id made of them, or become apart.
+    pub(crate) fn put(&mut self, step: Step)
+        requires { Doable self.old step }
+        ensures { self.new ≡ redone self.old (Some step) }
+    {
+        match step {
+            Step::Join(a, b) => {
+                let id = self.joined_id(a, b);
+                self.ids[a].live = false;
+                self.ids[b].live = false;
+                self.ids.push(id);
+            }
+            Step::Separation(a, b) => self.put_flag(a, b, true),
+        }
+        self.trail.push(step);
+    }
+
+    // Takes back the last step, if one stands.
+    pub(crate) fn take_back(&mut self)
+        requires { Undoable self.old (last_step self.old) }
+        ensures { self.new ≡ undone self.old }
+    {
+        match self.trail.pop() {
+            None => {}
+            Some(Step::Join(a, b)) => {
+                self.ids.pop();
+                self.ids[b].live = true;
+                self.ids[a].live = true;
+            }
+            Some(Step::Separation(a, b)) => self.put_flag(a, b, false),
+        }
+    }
 }

@@ -1,18 +1,17 @@
 // Joins and separations, each on trial.
-ghost use Rattle.std.specs.Prelude.{◌≡◌, ◌+◌, ◌<◌, true, Ok, Err};
+ghost use Rattle.std.specs.Prelude.{◌≡◌, Some};
 ghost use Rattle.job.specs.Answers.{refused_with, FirstBroken};
-ghost use Rattle.view.specs.Law.{open_count};
-ghost use Rattle.view.specs.Steps.{join_booked, joined, joined_cells, separated, separation_booked};
-ghost use Rattle.view.specs.View.{is_open, next, Roomy};
-ghost use Rattle.board.specs.Answers.{step_checked, step_rules, join_answer, separation_answer, if_done, WhenDone, Leaves, Carries};
+ghost use Rattle.view.specs.Steps.{joined, joined_cells, separated};
+ghost use Rattle.board.specs.Answers.{step_checked, step_rules, join_answer, separation_answer, if_done, WhenDone, StepsTo, Leaves, Carries};
 ghost use Rattle.board.specs.Refusals.{step_number};
-ghost use Rattle.board.specs.State.{view_of};
-ghost use Rattle.board.specs.Trail.{Stays};
+ghost use Rattle.board.specs.State.{standing, view_of};
+ghost use Rattle.board.specs.Trail.{Legal, Stays, view_after};
 
 use crate::board::Board;
 use crate::refusals::StepRefusal;
 use crate::trial::Trial;
 use amount::Amount;
+use view::Step;
 
 impl Board {
     // Whether a step of the two may be taken.
@@ -32,48 +31,16 @@ impl Board {
         Ok(())
     }
 
-    // The two become one: on the arrays.
-    fn put_join(&mut self, a: usize, b: usize)
-        requires { is_open (view_of self.old.state) a b ≡ true }
-        ensures view { view_of self.new.state ≡ joined (view_of self.old.state) a b }
-        ensures more { self.new.state.standing ≡ self.old.state.standing + 1 }
-        ensures fewer { open_count (view_of self.new.state) < open_count (view_of self.old.state) }
+    // Takes a step of an open pair, in what the board holds.
+    fn put(&mut self, step: Step)
+        requires { Legal self.old.state (Some step) }
+        ensures taken { StepsTo self.old.state (view_after (view_of self.old.state) step) self.new.state }
         ensures stays { Stays self.old.state self.new.state }
     {
-        let row = self.state.joined_row(a, b);
-        let members = self.state.joined_members(a, b);
-        self.state.put_join(a, b, row, members);
+        self.state.put(step);
     }
 
-    // The two become apart: on the arrays.
-    fn put_separation(&mut self, a: usize, b: usize)
-        requires { is_open (view_of self.old.state) a b ≡ true }
-        ensures view { view_of self.new.state ≡ separated (view_of self.old.state) a b }
-        ensures more { self.new.state.standing ≡ self.old.state.standing + 1 }
-        ensures fewer { open_count (view_of self.new.state) < open_count (view_of self.old.state) }
-        ensures stays { Stays self.old.state self.new.state }
-    {
-        self.state.put_separation(a, b);
-    }
-
-    // The two become one, and the answer is the new id with what it booked.
-    fn take_join<A: Amount>(&mut self, cells: &mut [A], a: usize, b: usize) -> (usize, A)
-        requires { (Roomy (view_of self.old.state) cells.old) × (is_open (view_of self.old.state) a b ≡ true) }
-        ensures answer { result ≡ (next (view_of self.old.state), join_booked A.Amount.kind (view_of self.old.state) cells.old a b) }
-        ensures cells { cells.new ≡ joined_cells A.Amount.kind (view_of self.old.state) cells.old a b }
-        ensures view { view_of self.new.state ≡ joined (view_of self.old.state) a b }
-        ensures more { self.new.state.standing ≡ self.old.state.standing + 1 }
-        ensures fewer { open_count (view_of self.new.state) < open_count (view_of self.old.state) }
-        ensures stays { Stays self.old.state self.new.state }
-    {
-        let id = self.state.made;
-        let booked = self.join_booked(cells, a, b);
-        self.write_amounts(cells, a, b);
-        self.put_join(a, b);
-        (id, booked)
-    }
-
-    // A join, or the first refusal that applies.
+    // A join, or the first refusal that applies: the answer is the new id with what it booked.
     fn try_join<A: Amount>(
         &mut self,
         cells: &mut [A],
@@ -86,24 +53,14 @@ impl Board {
         ensures stays { Stays self.old.state self.new.state }
     {
         self.check_step(cells, a, b)?;
-        Ok(self.take_join(cells, a, b))
+        let id = self.state.ids.len();
+        let booked = self.join_booked(cells, a, b);
+        self.write_amounts(cells, a, b);
+        self.put(Step::Join(a, b));
+        Ok((id, booked))
     }
 
-    // The two become apart, and the answer is what it booked.
-    fn take_separation<A: Amount>(&mut self, cells: &[A], a: usize, b: usize) -> A
-        requires { is_open (view_of self.old.state) a b ≡ true }
-        ensures answer { result ≡ separation_booked A.Amount.kind (view_of self.old.state) cells.now a b }
-        ensures view { view_of self.new.state ≡ separated (view_of self.old.state) a b }
-        ensures more { self.new.state.standing ≡ self.old.state.standing + 1 }
-        ensures fewer { open_count (view_of self.new.state) < open_count (view_of self.old.state) }
-        ensures stays { Stays self.old.state self.new.state }
-    {
-        let booked = self.amount(cells, a, b).positive_part();
-        self.put_separation(a, b);
-        booked
-    }
-
-    // A separation, or the first refusal that applies.
+    // A separation, or the first refusal that applies: the answer is what it booked.
     fn try_separation<A: Amount>(
         &mut self,
         cells: &[A],
@@ -115,13 +72,15 @@ impl Board {
         ensures stays { Stays self.old.state self.new.state }
     {
         self.check_step(cells, a, b)?;
-        Ok(self.take_separation(cells, a, b))
+        let booked = self.amount(cells, a, b).positive_part();
+        self.put(Step::Separation(a, b));
+        Ok(booked)
     }
 
     // Joins two ids on trial: the next unused id takes their place and their parts, and the answer is that id with the amount booked.
     pub fn join<A: Amount>(&mut self, cells: &mut [A], a: usize, b: usize) -> Trial<'_, (usize, A)>
         ensures lender { result.board.ghost_name ≡ self.entry.ghost_name }
-        ensures mark { result.mark ≡ self.old.state.standing }
+        ensures mark { result.mark ≡ standing self.old.state }
         ensures answer { result.answer ≡ join_answer A.Amount.kind (view_of self.old.state) cells.old a b }
         ensures tells { FirstBroken (step_rules (view_of self.old.state) cells.old a b) (refused_with step_number result.answer) }
         ensures board { Leaves result.answer self.old.state (joined (view_of self.old.state) a b) result.board.now.state }
@@ -129,7 +88,7 @@ impl Board {
         ensures stays { Stays self.old.state result.board.now.state }
         ensures reached { WhenDone result.answer (λ x. Carries A.Amount.kind (view_of self.old.state) cells.old (view_of result.board.now.state) cells.new x.1) }
     {
-        let mark = self.state.standing;
+        let mark = self.state.trail.len();
         let answer = self.try_join(cells, a, b);
         Trial {
             board: self,
@@ -141,14 +100,14 @@ impl Board {
     // Separates two ids on trial: the pair becomes apart, and the answer is the amount booked.
     pub fn separate<A: Amount>(&mut self, cells: &[A], a: usize, b: usize) -> Trial<'_, A>
         ensures lender { result.board.ghost_name ≡ self.entry.ghost_name }
-        ensures mark { result.mark ≡ self.old.state.standing }
+        ensures mark { result.mark ≡ standing self.old.state }
         ensures answer { result.answer ≡ separation_answer A.Amount.kind (view_of self.old.state) cells.now a b }
         ensures tells { FirstBroken (step_rules (view_of self.old.state) cells.now a b) (refused_with step_number result.answer) }
         ensures board { Leaves result.answer self.old.state (separated (view_of self.old.state) a b) result.board.now.state }
         ensures stays { Stays self.old.state result.board.now.state }
         ensures reached { WhenDone result.answer (λ x. Carries A.Amount.kind (view_of self.old.state) cells.now (view_of result.board.now.state) cells.now x) }
     {
-        let mark = self.state.standing;
+        let mark = self.state.trail.len();
         let answer = self.try_separation(cells, a, b);
         Trial {
             board: self,

@@ -1,5 +1,6 @@
 // Steps on trial, and steps taken back.
 ghost use Rattle.std.specs.Prelude.{◌≡◌, ◌+◌, ◌<◌};
+ghost use Rattle.board.specs.State.{standing};
 ghost use Rattle.board.specs.Trail.{undone, taken_back};
 
 use crate::board::Board;
@@ -46,19 +47,18 @@ impl<'a, T: Copy> Trial<'a, T> {
 impl Board {
     // Takes back the last step.
     fn undo(&mut self)
-        requires { 0 < self.old.state.standing }
+        requires { 0 < standing self.old.state }
         ensures state { self.new.state ≡ undone self.old.state }
-        ensures fewer { self.new.state.standing + 1 ≡ self.old.state.standing }
+        ensures fewer { standing self.new.state + 1 ≡ standing self.old.state }
     {
-        let step = self.state.trail[self.state.standing - 1];
-        self.state.take_back(step);
+        self.state.take_back();
     }
 
     // Takes back every step beyond the mark.
     pub(crate) fn take_back_to(&mut self, mark: usize)
         ensures { self.new.state ≡ taken_back mark self.old.state }
     {
-        while mark < self.state.standing {
+        while mark < self.state.trail.len() {
             self.undo();
         }
     }

@@ -1,7 +1,9 @@
 // Boards as views: steps on them, what is booked and what remains, and the law that ties both to the cost.
 #![tactic(auto)]
 
+ghost use Rattle.std.specs.Prelude.{◌≡◌};
 ghost use Rattle.view.specs.Law.{BookedAndRemaining, CostAfterSteps, ReachedKeeps};
+ghost use Rattle.view.specs.declared.Step.TheVariants.{Join};
 
 use amount::Amount;
 
@@ -12,6 +14,15 @@ pub enum Step {
     Join(usize, usize),
     // the two are settled to be apart
     Separation(usize, usize),
+}
+
+// What stands in a place that no step has taken.
+impl Default for Step {
+    ghost is_default = { λ step. step ≡ Join 0 0 };
+
+    fn default() -> Step {
+        Step::Join(0, 0)
+    }
 }
 
 // The law of boards, for every kind of amount. It does nothing: its contract states what holds of every board that a job leads to.

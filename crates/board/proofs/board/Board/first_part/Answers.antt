@@ -10,5 +10,5 @@ pub returns : goal.returns
 returns c =
     let v = view_of c.args.self.now.state in
     let found : c.find.result ≡ find (v.holds c.args.id) (range_with_len 0 v.parts) =
-        sym (option_map_id c.find.result) ∙ find_from_yields_List (v.holds c.args.id) _ _ _ c.find.ensures.ran (YieldsList-from_range 0 v.parts v.parts (search rules) (omega arith)) (λ x b q k. search (rules, tests)) in
+    sym (option_map_id c.find.result) ∙ find_from_yields_List (v.holds c.args.id) _ _ _ c.find.ensures.ran (YieldsList-from_range 0 v.parts v.parts (search rules) (omega arith)) (λ x b q k. search (rules, tests)) in
     c.unwrap_or.ensures ∙ ap (λ o. unwrap_or o 0) found

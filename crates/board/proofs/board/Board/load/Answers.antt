@@ -3,7 +3,7 @@ use Rattle.job.specs.Job.{Sound}
 use Rattle.job.specs.Lent.{job_of}
 use Rattle.view.specs.Reached.{Reached, by_load}
 use Rattle.view.specs.Steps.{start, load_booked, loaded_cells}
-use Rattle.board.specs.State.{view_of}
+use Rattle.board.specs.State.{standing, view_of}
 use Rattle.board.specs.Trail.{started, Past}
 use Rattle.board.specs.declared.state.State.{State}
 use Rattle.board.proofs.Back.{some_by_past, few_by_past}
@@ -16,8 +16,8 @@ invariant_of-result g c =
     let k = g.A.Amount.kind in
     let job = job_of c.in_ok-sized.sized.job in
     let sound = subst (Sound k) (sym c.in_ok-sized.ensures.same) (loads k g.met.A.Amount.laws (job_of c.args.job.now) c.args.cells.now c.in_ok-sized.ensures.tells).0 in
-    let start_past : Past (started job.parts job.marks).standing (started job.parts job.marks) = subst (λ n. Past n (started job.parts job.marks)) (sym (standing_started k job sound)) (tidy_started k job sound g.met.A.Amount.laws, standing_started k job sound) in
-    let p : ∥ Past c.start_state-state.result.standing c.start_state-state.result ∥₁ = ∣ subst (λ (s : State). Past s.standing s) (sym c.start_state-state.ensures) start_past ∣₁ in
+    let start_past : Past (standing (started job)) (started job) = subst (λ n. Past n (started job)) (sym (standing_started k job sound)) (tidy_started k job sound g.met.A.Amount.laws, standing_started k job sound) in
+    let p : ∥ Past (standing c.start_state-state.result) c.start_state-state.result ∥₁ = ∣ subst (λ (s : State). Past (standing s) s) (sym c.start_state-state.ensures) start_past ∣₁ in
     record { some = some_by_past _ p; few = few_by_past _ p; past = p }
 
 pub returns : goal.returns
@@ -34,7 +34,7 @@ returns g c =
     record {
       answer = c.in_ok-sized.ensures.value;
       tells = c.in_ok-sized.ensures.tells;
-      board = (view, ap (λ (t : State). t.standing) c.start_state-state.ensures ∙ standing_started k sized sound);
+      board = (view, ap standing c.start_state-state.ensures ∙ standing_started k sized sound);
       cells = written;
       reached = subst (λ v. Reached k job v c.write_square.new.cells (load_booked k job)) (sym view) (subst (λ l. Reached k job (start job) l (load_booked k job)) (sym written) (by_load cells s.0 s.1));
     }

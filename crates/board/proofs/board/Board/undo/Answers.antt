@@ -1,25 +1,13 @@
-use Rattle.std.proofs.Common.{◌+◌, sym, ap, ◌∙◌, subst, arith}
-use Rattle.board.specs.Trail.{Past}
-use Rattle.board.specs.declared.state.State.{State}
-use Rattle.board.proofs.Back.{undo_able, undo_fewer, undo_past, some_by_past, few_by_past, standing_by_past}
+use Rattle.board.proofs.Back.{undo_able, undo_fewer, undo_past, some_by_past, few_by_past}
 use Rattle.board.proofs.board.Board.undo.Goals as goal
 
-pub bounds-self-self : goal.bounds-self-self
-bounds-self-self c = omega (arith, c.requires, standing_by_past c.args.self.now.state c.args.self.now.past)
-
-pub offset_bounds-self-self : goal.offset_bounds-self-self
-offset_bounds-self-self c = omega (arith, c.requires, standing_by_past c.args.self.now.state c.args.self.now.past)
-
 pub take_back-requires : goal.take_back-requires
-take_back-requires c = undo_able c.args.self.now.state c.args.self.now.past c.requires
+take_back-requires c = undo_able _ c.args.self.now.past c.requires
 
 pub invariant_of-self : goal.invariant_of-self
 invariant_of-self c =
-    let p : ∥ Past c.take_back.new.self.standing c.take_back.new.self ∥₁ = subst (λ (s : State). ∥ Past s.standing s ∥₁) (sym c.take_back.ensures) (undo_past c.args.self.now.state c.args.self.now.past c.requires) in
+    let p = undo_past _ c.args.self.now.past c.requires _ c.take_back.ensures in
     record { some = some_by_past _ p; few = few_by_past _ p; past = p }
 
-pub returns : goal.returns
-returns c = record {
-  state = c.take_back.ensures;
-  fewer = ap (λ (s : State). s.standing + 1) c.take_back.ensures ∙ undo_fewer c.args.self.now.state c.args.self.now.past c.requires;
-}
+pub returns-clause-fewer : goal.returns-clause-fewer
+returns-clause-fewer c = undo_fewer _ c.args.self.now.past c.requires _ c.take_back.ensures

@@ -18,12 +18,12 @@ inside made wide n m w next_id width_is e f h r l t = (let s : wide * wide ≡ w
 pub put-requires : goal.put-requires
 put-requires g c =
     let past = c.args.self.now.past in
-    inside _ _ _ (length c.args.cells.now) _ _ _ (made_is _ past) c.width-width.ensures (next_fits _ past _ _ c.requires.1) c.requires.0 c.loop-w.auto.cells c.loop-w-test.true
+    inside _ _ _ (length c.args.cells.now) _ _ _ (c.len-id.ensures.value ∙ made_is _ past) c.width-width.ensures (next_fits _ past _ _ c.requires.1) c.requires.0 c.loop-w.auto.cells c.loop-w-test.true
 
 pub put-requires-then-is_other : goal.put-requires-then-is_other
 put-requires-then-is_other g c =
     let past = c.args.self.now.past in
-    let h = inside _ _ _ (length c.args.cells.now) _ _ _ (made_is _ past) c.width-width.ensures (next_fits _ past _ _ c.requires.1) c.requires.0 (c.put.auto.cells ∙ c.loop-w.auto.cells) c.loop-w-test.true in
+    let h = inside _ _ _ (length c.args.cells.now) _ _ _ (c.len-id.ensures.value ∙ made_is _ past) c.width-width.ensures (next_fits _ past _ _ c.requires.1) c.requires.0 (c.put.auto.cells ∙ c.loop-w.auto.cells) c.loop-w-test.true in
     (h.0, (omega (arith, h.1.0, h.1.1), omega (arith, h.1.0, h.1.1)))
 
 pub loop-w-preserved : goal.loop-w-preserved
@@ -36,8 +36,8 @@ loop-w-preserved g c =
     elim c.if-is_other.branch [
       | then-is_other w ↦
           written k (view_of s) cells c.args.a c.args.b (live_width s past) (next_unused s past) (next_fits s past _ _ c.requires.1) c.requires.0 c.loop-w.w (sym w.if-is_other.ensures)
-          o.live_a o.live_b s.made c.width-width.result c.loop-w.cells w.put.new.cells c.if-is_other.cells w.amount.result w.amount-then-is_other.result w.sum-sum.result
-          (made_is s past) c.width-width.ensures c.loop-w.invariant w.amount.ensures w.amount-then-is_other.ensures w.sum-sum.ensures w.put.ensures (w.cells-is ∙ w.put-then-is_other.ensures)
+          o.live_a o.live_b c.len-id.result c.width-width.result c.loop-w.cells w.put.new.cells c.if-is_other.cells w.amount.result w.amount-then-is_other.result w.sum-sum.result
+          (c.len-id.ensures.value ∙ made_is s past) c.width-width.ensures c.loop-w.invariant w.amount.ensures w.amount-then-is_other.ensures w.sum-sum.ensures w.put.ensures (w.cells-is ∙ w.put-then-is_other.ensures)
       | else-is_other w ↦
           w.cells-is ∙ c.loop-w.invariant ∙ passes k (view_of s) cells c.args.a c.args.b (live_width s past) (next_unused s past) (next_fits s past _ _ c.requires.1) c.requires.0 c.loop-w.w (sym w.if-is_other.ensures)
     ]

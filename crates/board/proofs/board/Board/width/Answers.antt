@@ -1,7 +1,0 @@
-use Rattle.std.proofs.Common.{rules}
-use Rattle.board.specs.State.{view_of}
-use Rattle.board.proofs.board.Board.width.Goals as goal
-
-pub returns : goal.returns
-unfolding view_of
-returns c = search rules
