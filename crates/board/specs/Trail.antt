@@ -25,7 +25,7 @@ part_id n marks i = record {
   members = flags max_parts (λ p. i == p);
 }
 
--- a board of n parts with no step
+-- what a board of n parts with no step holds
 unfoldable pub started : ℕ → List Bool → State
 started n marks = record {
   parts = n;

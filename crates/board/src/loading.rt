@@ -34,7 +34,7 @@ fn is_marked_below(parts: usize, marks: &[bool], i: usize, j: usize) -> bool
     j < i && marks[i * parts + j]
 }
 
-// The id of a part on a board with no step: it is alone, and its row has its marks with the parts below it.
+// The id of a part before any step: the part alone, apart from the parts below it that it is marked with.
 fn part_id(parts: usize, marks: &[bool], i: usize) -> Id
     requires { (parts ≤ max_parts) × ((length marks.now ≡ parts * parts) × (i < parts)) }
     ensures { result ≡ part_id parts marks.now i }
@@ -46,7 +46,7 @@ fn part_id(parts: usize, marks: &[bool], i: usize) -> Id
     }
 }
 
-// A board with no step yet.
+// What a board with no step holds.
 fn start_state(parts: usize, marks: &[bool]) -> State
     requires { (parts ≤ max_parts) × (length marks.now ≡ parts * parts) }
     ensures { result ≡ started parts marks.now }
