@@ -5,7 +5,7 @@ use Rattle.view.specs.View.{View}
 use Rattle.board.specs.declared.state.Id.{Id}
 use Rattle.board.specs.declared.state.State.{State}
 
--- how many ids were made, the parts among them: the next unused one
+-- how many ids were made, the parts among them: the next unused id
 abbrev pub made : State → ℕ
 made s = array_vec_len s.ids
 

@@ -26,7 +26,7 @@ part_id job i = record {
   members = flags max_parts (λ p. i == p);
 }
 
--- a board with no step
+-- what a board with no step holds
 unfoldable pub started : {A : Type 0} → Job A → State
 started job = record {
   parts = job.parts;

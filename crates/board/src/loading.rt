@@ -35,7 +35,7 @@ fn is_marked_below<A: Amount>(job: &Job<'_, A>, part: usize, below: usize) -> bo
     below < part && job.is_marked(part, below)
 }
 
-// The id of a part on a board with no step: it is alone, and apart from the parts below it that it is marked with.
+// The id of a part before any step: the part alone, apart from the parts below it that it is marked with.
 fn part_id<A: Amount>(job: &Job<'_, A>, part: usize) -> Id
     ensures { result ≡ part_id (job_of job.now) part }
 {
@@ -46,7 +46,7 @@ fn part_id<A: Amount>(job: &Job<'_, A>, part: usize) -> Id
     }
 }
 
-// A board with no step yet.
+// What a board with no step holds.
 fn start_state<A: Amount>(job: &SizedJob<'_, A>) -> State
     ensures { result ≡ started (job_of job.now.job) }
 {

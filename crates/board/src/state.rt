@@ -28,7 +28,7 @@ pub(crate) struct Id {
 #[derive(Drop)]
 pub(crate) struct State {
     pub(crate) parts: usize,
-    // the ids that were made, the parts first; how many they are is the next unused one
+    // the ids that were made, the parts first; their number is the next unused id
     pub(crate) ids: ArrayVec<Id, MAX_IDS>,
     // the steps that stand, first to last
     pub(crate) trail: ArrayVec<Step, MAX_STEPS>,
