@@ -23,8 +23,7 @@ fn tell_join(
     match answer {
         Ok(made) => {
             let (id, booked) = made;
-            let amount = booked.value();
-            println!(rt; "  {what}: makes id {id}, books {amount}")?;
+            println!(rt; "  {what}: makes id {id}, books {booked}")?;
         }
         Err(refusal) => {
             let number = refusal.number();
@@ -42,8 +41,7 @@ fn tell_separation(
 ) -> anyhow::Result<()> {
     match answer {
         Ok(booked) => {
-            let amount = booked.value();
-            println!(rt; "  {what}: books {amount}")?;
+            println!(rt; "  {what}: books {booked}")?;
         }
         Err(refusal) => {
             let number = refusal.number();
@@ -102,9 +100,6 @@ fn show_law(
             } else {
                 "is not"
             };
-            let booked = booked.value();
-            let rest = rest.value();
-            let price = price.value();
             println!(rt; "  {labels:?}: booked {booked} + remaining {rest} {sign} cost {price}")?;
         }
     }
@@ -132,7 +127,7 @@ fn show_list(rt: &HostRuntime, square: &[Single]) -> anyhow::Result<()> {
         Step::Join(0, 1),
     ];
     let played = play(PARTS, square, &UNMARKED, &mut cells, &steps)?;
-    let booked = played.booked.value();
+    let booked = played.booked;
     println!(rt; "  a list of four steps: booked {booked}")?;
     if let Some(refused) = played.refused {
         let place = refused.place;
