@@ -9,8 +9,9 @@ use Rattle.amount.specs.declared.ranks.Ranked.{Ranked}
 use Rattle.amount.specs.Trichotomy.{exactly_one}
 use Rattle.amount.specs.Clamped as whole
 
-same_ranked : {x y : Ranked} → x.first ≡ y.first → x.second ≡ y.second → x ≡ y
-same_ranked p q = λ i. record { first = p i; second = q i }
+-- two ranked amounts are one where both ranks are
+pub same_ranked : (x y : Ranked) → x.first ≡ y.first → x.second ≡ y.second → x ≡ y
+same_ranked x y p q = λ i. record { first = p i; second = q i }
 
 irreflexive : (x : Ranked) → ranked_kind.below x x ≡ false
 irreflexive x = grind (arith, ints)
@@ -18,23 +19,23 @@ irreflexive x = grind (arith, ints)
 transitive : (x y z : Ranked) → ranked_kind.below x y ≡ true → ranked_kind.below y z ≡ true → ranked_kind.below x z ≡ true
 transitive x y z p q = grind (arith, ints)
 
-connected : (x y : Ranked) → ranked_kind.below x y ≡ false → ranked_kind.below y x ≡ false → (x.first.value ≡ y.first.value) × (x.second.value ≡ y.second.value)
-connected x y p q = grind (arith, ints)
+connected : (x y : Ranked) → ranked_kind.below x y ≡ false → ranked_kind.below y x ≡ false → x ≡ y
+connected x y p q = same_ranked x y (same_single x.first y.first (grind (arith, ints))) (same_single x.second y.second (grind (arith, ints)))
 
 shifts : (x y z : Ranked) → ranked_kind.span x + ranked_kind.span y + ranked_kind.span z ≤ span_limit → ranked_kind.below (ranked_kind.sum x z) (ranked_kind.sum y z) ≡ ranked_kind.below x y
 shifts x y z h = cc (whole.shifts x.first.value y.first.value z.first.value (omega arith), whole.shifts y.first.value x.first.value z.first.value (omega arith), whole.shifts x.second.value y.second.value z.second.value (omega arith))
 
 pub ranked_laws : Laws ranked_kind
 ranked_laws = record {
-  span_most = λ x. omega (arith, single_laws.span_most x.first, single_laws.span_most x.second);
+  span_most = λ x. omega arith;
   span_zero = refl;
-  span_opposite = λ x. omega (arith, single_laws.span_opposite x.first, single_laws.span_opposite x.second);
-  span_sum = λ x y h. omega (arith, single_laws.span_sum x.first y.first (omega arith), single_laws.span_sum x.second y.second (omega arith));
-  commutes = λ x y h. same_ranked (single_laws.commutes x.first y.first (omega arith)) (single_laws.commutes x.second y.second (omega arith));
-  associates = λ x y z h. same_ranked (single_laws.associates x.first y.first z.first (omega arith)) (single_laws.associates x.second y.second z.second (omega arith));
-  neutral = λ x. same_ranked (single_laws.neutral x.first) (single_laws.neutral x.second);
-  cancels = λ x h. same_ranked (single_laws.cancels x.first (omega arith)) (single_laws.cancels x.second (omega arith));
-  ordered = exactly_one ranked_kind.below irreflexive transitive (λ x y p q. let e = connected x y p q in same_ranked (same_single x.first y.first e.0) (same_single x.second y.second e.1));
+  span_opposite = λ x. omega (arith, single_laws.span_opposite);
+  span_sum = λ x y h. omega (arith, single_laws.span_sum);
+  commutes = λ x y h. same_ranked _ _ (single_laws.commutes x.first y.first (omega arith)) (single_laws.commutes x.second y.second (omega arith));
+  associates = λ x y z h. same_ranked _ _ (single_laws.associates x.first y.first z.first (omega arith)) (single_laws.associates x.second y.second z.second (omega arith));
+  neutral = λ x. same_ranked _ _ (single_laws.neutral x.first) (single_laws.neutral x.second);
+  cancels = λ x h. same_ranked _ _ (single_laws.cancels x.first (omega arith)) (single_laws.cancels x.second (omega arith));
+  ordered = exactly_one ranked_kind.below irreflexive transitive connected;
   transitive = transitive;
   shifts = λ x y z h p. shifts x y z h ∙ p;
 }
