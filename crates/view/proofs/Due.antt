@@ -1,6 +1,7 @@
 -- What one pair of ids still costs, as one sum: the remaining cost is the total of these.
 use Rattle.std.proofs.Common.{◌≡◌, ℕ, ◌*◌, ◌≤◌, Bool, true, false, cond, not, ◌&&◌, eqb, ◌⊎◌, List, [], ◌∷◌, map, sym, refl, ap, ◌∙◌, ap₂, inl, inr, arith}
 use Rattle.std.specs.List.{AllByRecursion}
+use Rattle.std.proofs.lemmas.Bool.Decides.{nat_tests}
 use Rattle.std.proofs.lemmas.Bool.{cond-true, cond-false, cases_Bool, cases_eq, eq-eqb, ne_eqb, and_left, and_parts}
 use Rattle.amount.specs.Kind.{Kind, Laws, span_limit}
 use Rattle.amount.specs.Signs.{positive_part, negative_part}
@@ -12,7 +13,8 @@ use Rattle.job.specs.Cost.{pairs, separating_term, joining_term}
 use Rattle.view.specs.View.{live_amount, View, width, is_open, amount_in}
 use Rattle.view.specs.Remaining.{share, remaining, first_part}
 use Rattle.view.specs.Good.{Good}
-use Rattle.view.proofs.Good.{open_is, and_comm}
+use Rattle.view.proofs.Good.{open_is}
+use Rattle.std.proofs.Math.Bool.{and_comm}
 
 -- a pair's term: its negative part inside a group, its positive part between groups
 abbrev pub due : {A : Type 0} → Kind A → Bool → A → A
@@ -22,11 +24,7 @@ abbrev pub open_due : {A : Type 0} → Kind A → View → List A → List ℕ �
 open_due k v cells labels i j = cond (is_open v i j) (due k (share v labels i j) (amount_in k v cells i j)) k.zero
 
 pub eqb_swap : (i j : ℕ) → eqb i j ≡ eqb j i
-eqb_swap i j = go (cases_eq i j)
-  where
-    go : (i ≡ j) ⊎ (i ≡ j → ⊥) → eqb i j ≡ eqb j i
-    go (inl e) = eq-eqb i j e ∙ sym (eq-eqb j i (sym e))
-    go (inr d) = ne_eqb i j d ∙ sym (ne_eqb j i (λ e. d (sym e)))
+eqb_swap i j = grind (arith, nat_tests)
 
 pub map_same : {I X : Type 0} (f g : I → X) (is : List I) → AllByRecursion (λ i. f i ≡ g i) is → map f is ≡ map g is
 map_same f g [] h = refl

@@ -2,7 +2,8 @@
 use Rattle.std.proofs.Common.{◌≡◌, ℕ, suc, ◌+◌, ◌<◌, ◌≤◌, Bool, true, false, cond, not, ◌&&◌, ◌||◌, eqb, ◌⊎◌, List, [], ◌∷◌, length, filter, sym, refl, ap, ◌∙◌, subst, inl, inr, arith}
 use Rattle.std.specs.List.{range_with_len}
 use Rattle.std.proofs.lemmas.List.FromFn.{length-range_with_len}
-use Rattle.std.proofs.lemmas.Bool.{cases_eq, eq-eqb, ne_eqb, eqb-true, and_parts, and_from, and_left, and_right, or_cases, both_ways, not-true, cond-true, cond-false, or_left, or_right}
+use Rattle.std.proofs.lemmas.Bool.{cases_eq, eq-eqb, ne_eqb, eqb-true, and_parts, and_from, and_left, and_right, or_cases, both_ways, not-true, cond-true, cond-false, or_left, or_right, false_from_ne_true}
+use Rattle.std.proofs.Math.Bool.{and_comm, or_comm}
 use Rattle.view.specs.Good.{Good}
 use Rattle.view.specs.View.{View, width, ids, next, is_open}
 use Rattle.view.specs.Steps.{is_other, others, joined, separated}
@@ -42,13 +43,9 @@ pub record New (v : View) (a b : ℕ) : Type 0 where
   pub fits : next v < width v
   pub grows : next (joined v a b) ≡ next v + 1
 
-denied : (b : Bool) → (b ≡ true → ⊥) → b ≡ false
-denied true h = absurd (h refl)
-denied false h = refl
-
 pub new_id : (v : View) (a b : ℕ) → Good v → Open v a b → New v a b
 new_id v a b g o =
-    let unused : v.live (next v) ≡ false = denied (v.live (next v)) (λ l. let m : next v < next v = g.live_below (next v) l in let no : ⊥ = omega arith in no) in
+    let unused : v.live (next v) ≡ false = false_from_ne_true (v.live (next v)) (λ l. let m : next v < next v = g.live_below (next v) l in let no : ⊥ = omega arith in no) in
     let other : is_other v a b (next v) ≡ false = and_left (v.live (next v)) _ unused in
     let all : length (ids v) ≤ width v = omega (arith, kept_le v.live (range_with_len 0 (width v)), length-range_with_len 0 (width v)) in
     let many : length (ids v) ≡ suc (suc (length (others v a b))) = length_perm (before v a b o.live_a o.live_b o.distinct (g.live_in a o.live_a) (g.live_in b o.live_b)) in
@@ -95,12 +92,6 @@ module _ (v : View) (a b : ℕ) where
   pub apart_elsewhere : (i j : ℕ) → (i ≡ next v → ⊥) → (j ≡ next v → ⊥) → (joined v a b).apart i j ≡ ((is_other v a b i && is_other v a b j) && v.apart i j)
   apart_elsewhere i j d e = cond-false (eqb i (next v)) _ _ (ne_eqb i (next v) d) ∙ cond-false (eqb j (next v)) _ _ (ne_eqb j (next v) e)
 
-and_swap : (x y z : Bool) → ((x && y) && z) ≡ ((y && x) && z)
-and_swap true true z = refl
-and_swap true false z = refl
-and_swap false true z = refl
-and_swap false false z = refl
-
 -- no other id is the new one
 pub not_new : (v : View) (a b : ℕ) → New v a b → (i : ℕ) → is_other v a b i ≡ true → i ≡ next v → ⊥
 not_new v a b n i q e = both_ways (is_other v a b (next v)) n.no_other (ap (is_other v a b) (sym e) ∙ q)
@@ -132,7 +123,7 @@ good_joined v a b g o n = record {
     both_apart i j (inl p) (inl q) = ap (λ x. (joined v a b).apart x j) (p ∙ sym q) ∙ ap ((joined v a b).apart j) (q ∙ sym p)
     both_apart i j (inl p) (inr q) = ap (λ x. (joined v a b).apart x j) p ∙ apart_at_new v a b j ∙ sym (apart_to_new v a b j q) ∙ ap ((joined v a b).apart j) (sym p)
     both_apart i j (inr p) (inl q) = ap ((joined v a b).apart i) q ∙ apart_to_new v a b i p ∙ sym (apart_at_new v a b i) ∙ ap (λ x. (joined v a b).apart x i) (sym q)
-    both_apart i j (inr p) (inr q) = apart_elsewhere v a b i j p q ∙ ap (λ t. (is_other v a b i && is_other v a b j) && t) (g.apart_symmetric i j) ∙ and_swap (is_other v a b i) (is_other v a b j) (v.apart j i) ∙ sym (apart_elsewhere v a b j i q p)
+    both_apart i j (inr p) (inr q) = apart_elsewhere v a b i j p q ∙ ap (λ t. (is_other v a b i && is_other v a b j) && t) (g.apart_symmetric i j) ∙ ap (λ t. t && v.apart j i) (and_comm (is_other v a b i) (is_other v a b j)) ∙ sym (apart_elsewhere v a b j i q p)
 
     apart_then_live : (i j : ℕ) → (joined v a b).apart i j ≡ true → (i ≡ next v) ⊎ (i ≡ next v → ⊥) → (j ≡ next v) ⊎ (j ≡ next v → ⊥) → (joined v a b).live i ≡ true
     apart_then_live i j e (inl p) q = ap (joined v a b).live p ∙ live_new v a b
@@ -183,26 +174,13 @@ good_joined v a b g o n = record {
     once p i j x y (inr d) (inl e) = let h = old_parts p i d x in absurd (clash p i (new_parts p j e y) h.0 h.1)
     once p i j x y (inr d) (inr e) = g.held_once p i j (old_parts p i d x).1 (old_parts p j e y).1
 
-or_swap : (x y z : Bool) → (x || (y || z)) ≡ (x || (z || y))
-or_swap true y z = refl
-or_swap false true true = refl
-or_swap false true false = refl
-or_swap false false true = refl
-or_swap false false false = refl
-
-pub and_comm : (x y : Bool) → (x && y) ≡ (y && x)
-and_comm true true = refl
-and_comm true false = refl
-and_comm false true = refl
-and_comm false false = refl
-
 pub good_separated : (v : View) (a b : ℕ) → Good v → Open v a b → Good (separated v a b)
 good_separated v a b g o = record {
   some = g.some;
   few = g.few;
   live_in = g.live_in;
   live_below = g.live_below;
-  apart_symmetric = λ i j. ap (λ t. t || ((eqb i a && eqb j b) || (eqb i b && eqb j a))) (g.apart_symmetric i j) ∙ or_swap (v.apart j i) (eqb i a && eqb j b) (eqb i b && eqb j a) ∙ ap (λ t. v.apart j i || (t || (eqb i a && eqb j b))) (and_comm (eqb i b) (eqb j a)) ∙ ap (λ t. v.apart j i || ((eqb j a && eqb i b) || t)) (and_comm (eqb i a) (eqb j b));
+  apart_symmetric = λ i j. ap (λ t. t || ((eqb i a && eqb j b) || (eqb i b && eqb j a))) (g.apart_symmetric i j) ∙ ap (λ t. v.apart j i || t) (or_comm (eqb i a && eqb j b) (eqb i b && eqb j a)) ∙ ap (λ t. v.apart j i || (t || (eqb i a && eqb j b))) (and_comm (eqb i b) (eqb j a)) ∙ ap (λ t. v.apart j i || ((eqb j a && eqb i b) || t)) (and_comm (eqb i a) (eqb j b));
   apart_other = λ i. ap (λ t. t || ((eqb i a && eqb i b) || (eqb i b && eqb i a))) (g.apart_other i) ∙ none i (cases_eq i a);
   apart_live = λ i j e. pick i j (or_cases (v.apart i j) ((eqb i a && eqb j b) || (eqb i b && eqb j a)) e);
   holds_live = g.holds_live;
