@@ -2,7 +2,7 @@
 use Rattle.std.proofs.Common.{◌≡◌, ℕ, ◌*◌, ◌≤◌, Bool, true, false, cond, not, ◌&&◌, eqb, ◌⊎◌, List, [], ◌∷◌, map, sym, refl, ap, ◌∙◌, ap₂, inl, inr, arith}
 use Rattle.std.specs.List.{AllByRecursion}
 use Rattle.std.proofs.lemmas.Bool.Decides.{nat_tests}
-use Rattle.std.proofs.lemmas.Bool.{cond-true, cond-false, cases_Bool, cases_eq, eq-eqb, ne_eqb, and_left, and_parts}
+use Rattle.std.proofs.lemmas.Bool.{cond-true, cond-false, cases_Bool, and_left, and_parts}
 use Rattle.amount.specs.Kind.{Kind, Laws, span_limit}
 use Rattle.amount.specs.Signs.{positive_part, negative_part}
 use Rattle.amount.specs.Totals.{total, spans}
@@ -46,8 +46,7 @@ module _ {A : Type 0} (k : Kind A) (laws : Laws k) where
   spans_map_under f g (i ∷ is) h = omega (arith, h i, spans_map_under f g is h)
 
   term_sum : (s : Bool) (x : A) → k.sum (separating_term k s x) (joining_term k s x) ≡ due k s x
-  term_sum true x = laws.neutral (negative_part k x)
-  term_sum false x = neutral_right k laws (positive_part k x)
+  term_sum s x = grind (arith, laws.neutral (negative_part k x), neutral_right k laws (positive_part k x))
 
   pub span_due : (s : Bool) (x : A) → k.span (due k s x) ≤ k.span x
   span_due true x = span_negative_part k laws x

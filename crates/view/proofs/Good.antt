@@ -1,8 +1,9 @@
 -- What every reached view keeps: ids are in bounds, apart is symmetric, and the parts are divided among the live ids.
-use Rattle.std.proofs.Common.{◌≡◌, ℕ, suc, ◌+◌, ◌<◌, ◌≤◌, Bool, true, false, cond, not, ◌&&◌, ◌||◌, eqb, ◌⊎◌, List, [], ◌∷◌, length, filter, sym, refl, ap, ◌∙◌, subst, inl, inr, arith}
+use Rattle.std.proofs.Common.{⊎_elim, ◌≡◌, ℕ, suc, ◌+◌, ◌<◌, ◌≤◌, Bool, true, false, not, ◌&&◌, ◌||◌, eqb, ◌⊎◌, List, [], ◌∷◌, length, filter, sym, refl, ap, ◌∙◌, subst, inl, inr, arith}
 use Rattle.std.specs.List.{range_with_len}
 use Rattle.std.proofs.lemmas.List.FromFn.{length-range_with_len}
-use Rattle.std.proofs.lemmas.Bool.{cases_eq, eq-eqb, ne_eqb, eqb-true, and_parts, and_from, and_left, and_right, or_cases, both_ways, not-true, cond-true, cond-false, or_left, or_right, false_from_ne_true}
+use Rattle.std.proofs.lemmas.Bool.Decides.{nat_tests}
+use Rattle.std.proofs.lemmas.Bool.{cases_eq, eq-eqb, ne_eqb, eqb-true, and_parts, and_from, and_left, and_right, or_cases, both_ways, not-true, or_left, or_right, false_from_ne_true}
 use Rattle.std.proofs.Math.Bool.{and_comm, or_comm}
 use Rattle.view.specs.Good.{Good}
 use Rattle.view.specs.View.{View, width, ids, next, is_open}
@@ -30,11 +31,7 @@ open_is v a b e =
 
 pub kept_le : (p : ℕ → Bool) (xs : List ℕ) → length (filter p xs) ≤ length xs
 kept_le p [] = omega arith
-kept_le p (x ∷ xs) = go (p x) (kept_le p xs)
-  where
-    go : (t : Bool) → length (filter p xs) ≤ length xs → length (cond t (x ∷ filter p xs) (filter p xs)) ≤ length (x ∷ xs)
-    go true h = omega arith
-    go false h = omega arith
+kept_le p (x ∷ xs) = grind (arith, kept_le p xs)
 
 -- the new id: not live before, and the last one then
 pub record New (v : View) (a b : ℕ) : Type 0 where
@@ -56,13 +53,10 @@ new_id v a b g o =
 -- What holds of a joined view, case by case.
 module _ (v : View) (a b : ℕ) where
   pub other_facts : (i : ℕ) → is_other v a b i ≡ true → (v.live i ≡ true) × (i ≡ a → ⊥) × (i ≡ b → ⊥)
-  other_facts i e =
-      let h = and_parts (v.live i) (not (eqb i a) && not (eqb i b)) e in
-      let r = and_parts (not (eqb i a)) (not (eqb i b)) h.1 in
-      (h.0, λ s. both_ways (eqb i a) (not-true (eqb i a) r.0) (eq-eqb i a s), λ s. both_ways (eqb i b) (not-true (eqb i b) r.1) (eq-eqb i b s))
+  other_facts i e = grind (arith, nat_tests)
 
   pub other_from : (i : ℕ) → v.live i ≡ true → (i ≡ a → ⊥) → (i ≡ b → ⊥) → is_other v a b i ≡ true
-  other_from i l p q = and_from (v.live i) (not (eqb i a) && not (eqb i b)) l (and_from (not (eqb i a)) (not (eqb i b)) (ap not (ne_eqb i a p)) (ap not (ne_eqb i b q)))
+  other_from i l p q = grind (arith, nat_tests)
 
   pub live_cases : (i : ℕ) → (joined v a b).live i ≡ true → (is_other v a b i ≡ true) ⊎ (i ≡ next v)
   live_cases i e = go (or_cases (is_other v a b i) (eqb i (next v)) e)
@@ -78,19 +72,19 @@ module _ (v : View) (a b : ℕ) where
   live_new = or_right (is_other v a b (next v)) (eqb (next v) (next v)) (eq-eqb (next v) (next v) refl)
 
   pub holds_at_new : (p : ℕ) → (joined v a b).holds (next v) p ≡ (v.holds a p || v.holds b p)
-  holds_at_new p = cond-true (eqb (next v) (next v)) _ _ (eq-eqb (next v) (next v) refl)
+  holds_at_new p = grind (arith, nat_tests)
 
   pub holds_elsewhere : (i p : ℕ) → (i ≡ next v → ⊥) → (joined v a b).holds i p ≡ (is_other v a b i && v.holds i p)
-  holds_elsewhere i p d = cond-false (eqb i (next v)) _ _ (ne_eqb i (next v) d)
+  holds_elsewhere i p d = grind (arith, nat_tests)
 
   pub apart_at_new : (j : ℕ) → (joined v a b).apart (next v) j ≡ (is_other v a b j && (v.apart a j || v.apart b j))
-  apart_at_new j = cond-true (eqb (next v) (next v)) _ _ (eq-eqb (next v) (next v) refl)
+  apart_at_new j = grind (arith, nat_tests)
 
   pub apart_to_new : (i : ℕ) → (i ≡ next v → ⊥) → (joined v a b).apart i (next v) ≡ (is_other v a b i && (v.apart a i || v.apart b i))
-  apart_to_new i d = cond-false (eqb i (next v)) _ _ (ne_eqb i (next v) d) ∙ cond-true (eqb (next v) (next v)) _ _ (eq-eqb (next v) (next v) refl)
+  apart_to_new i d = grind (arith, nat_tests)
 
   pub apart_elsewhere : (i j : ℕ) → (i ≡ next v → ⊥) → (j ≡ next v → ⊥) → (joined v a b).apart i j ≡ ((is_other v a b i && is_other v a b j) && v.apart i j)
-  apart_elsewhere i j d e = cond-false (eqb i (next v)) _ _ (ne_eqb i (next v) d) ∙ cond-false (eqb j (next v)) _ _ (ne_eqb j (next v) e)
+  apart_elsewhere i j d e = grind (arith, nat_tests)
 
 -- no other id is the new one
 pub not_new : (v : View) (a b : ℕ) → New v a b → (i : ℕ) → is_other v a b i ≡ true → i ≡ next v → ⊥
@@ -113,11 +107,7 @@ good_joined v a b g o n = record {
 }
   where
     at_live : (P : ℕ → Type 0) (i : ℕ) → (is_other v a b i ≡ true → P i) → P (next v) → (joined v a b).live i ≡ true → P i
-    at_live P i other new l = go (live_cases v a b i l)
-      where
-        go : (is_other v a b i ≡ true) ⊎ (i ≡ next v) → P i
-        go (inl q) = other q
-        go (inr e) = subst P (sym e) new
+    at_live P i other new l = ⊎_elim other (λ e. subst P (sym e) new) (live_cases v a b i l)
 
     both_apart : (i j : ℕ) → (i ≡ next v) ⊎ (i ≡ next v → ⊥) → (j ≡ next v) ⊎ (j ≡ next v → ⊥) → (joined v a b).apart i j ≡ (joined v a b).apart j i
     both_apart i j (inl p) (inl q) = ap (λ x. (joined v a b).apart x j) (p ∙ sym q) ∙ ap ((joined v a b).apart j) (q ∙ sym p)
@@ -131,8 +121,7 @@ good_joined v a b g o n = record {
     apart_then_live i j e (inr p) (inr q) = live_other v a b i (and_parts (is_other v a b i) (is_other v a b j) (and_parts (is_other v a b i && is_other v a b j) (v.apart i j) (sym (apart_elsewhere v a b i j p q) ∙ e)).0).0
 
     not_itself : (i : ℕ) → (i ≡ next v) ⊎ (i ≡ next v → ⊥) → (joined v a b).apart i i ≡ false
-    not_itself i (inl e) = ap (λ x. (joined v a b).apart x x) e ∙ apart_at_new v a b (next v) ∙ and_left (is_other v a b (next v)) _ n.no_other
-    not_itself i (inr d) = apart_elsewhere v a b i i d d ∙ and_right (is_other v a b i && is_other v a b i) (v.apart i i) (g.apart_other i)
+    not_itself i e = grind (arith, nat_tests, g.apart_other i)
 
     held_then_live : (i p : ℕ) → (joined v a b).holds i p ≡ true → (i ≡ next v) ⊎ (i ≡ next v → ⊥) → (joined v a b).live i ≡ true
     held_then_live i p e (inl q) = ap (joined v a b).live q ∙ live_new v a b

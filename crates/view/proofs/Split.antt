@@ -1,11 +1,11 @@
 -- The values of all pairs of live ids, split at a join: before it, at the two that are joined; after it, at the new one.
-use Rattle.std.proofs.Common.{◌≡◌, ℕ, ◌<◌, Bool, true, false, not, ◌&&◌, ◌||◌, eqb, ◌⊎◌, List, ◌∷◌, map, length, filter, sym, refl, ap, ◌∙◌, subst, inl, inr, arith}
+use Rattle.std.proofs.Common.{◌≡◌, ℕ, ◌<◌, true, false, not, ◌&&◌, eqb, List, ◌∷◌, map, length, filter, sym, refl, ◌∙◌, subst, arith}
 use mathlib.Core.List.{Permᴰ}
 use Rattle.std.proofs.Math.Bool.{and_assoc}
 use Rattle.std.specs.List.{range_with_len, AllByRecursion}
 use Rattle.std.proofs.ByRecursion.{kept_by_passes}
 use Rattle.std.proofs.lemmas.Bool.Decides.{nat_tests}
-use Rattle.std.proofs.lemmas.Bool.{cases_eq, eq-eqb, ne_eqb, and_from, not_from_false, or_right}
+use Rattle.std.proofs.lemmas.Bool.{eq-eqb, ne_eqb, and_from, not_from_false, or_right}
 use Rattle.job.specs.Cost.{pairs}
 use Rattle.view.specs.View.{View, width, ids, next}
 use Rattle.view.specs.Steps.{is_other, others, joined}
