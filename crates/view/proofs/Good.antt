@@ -96,11 +96,11 @@ good_joined v a b g o n = record {
   few = g.few;
   live_in = λ i l. at_live (λ j. j < width v) i (λ q. g.live_in i (other_facts v a b i q).0) n.fits l;
   live_below = λ i l. at_live (λ j. j < next (joined v a b)) i (λ q. let h : i < next v = g.live_below i (other_facts v a b i q).0 in omega (arith, n.grows)) (omega (arith, n.grows)) l;
-  apart_symmetric = λ i j. both_apart i j (cases_eq i (next v)) (cases_eq j (next v));
-  apart_live = λ i j e. apart_then_live i j e (cases_eq i (next v)) (cases_eq j (next v));
-  apart_other = λ i. not_itself i (cases_eq i (next v));
-  holds_live = λ i p e. held_then_live i p e (cases_eq i (next v));
-  holds_part = λ i p e. held_part i p e (cases_eq i (next v));
+  apart_symmetric = both_apart;
+  apart_live = apart_then_live;
+  apart_other = not_itself;
+  holds_live = held_then_live;
+  holds_part = held_part;
   some_part = λ i l. part_of i (live_cases v a b i l);
   held = λ p h. holder p (g.held p h) (cases_eq (g.held p h).0 a) (cases_eq (g.held p h).0 b);
   held_once = λ p i j x y. once p i j x y (cases_eq i (next v)) (cases_eq j (next v));
@@ -109,31 +109,20 @@ good_joined v a b g o n = record {
     at_live : (P : ℕ → Type 0) (i : ℕ) → (is_other v a b i ≡ true → P i) → P (next v) → (joined v a b).live i ≡ true → P i
     at_live P i other new l = ⊎_elim other (λ e. subst P (sym e) new) (live_cases v a b i l)
 
-    both_apart : (i j : ℕ) → (i ≡ next v) ⊎ (i ≡ next v → ⊥) → (j ≡ next v) ⊎ (j ≡ next v → ⊥) → (joined v a b).apart i j ≡ (joined v a b).apart j i
-    both_apart i j (inl p) (inl q) = ap (λ x. (joined v a b).apart x j) (p ∙ sym q) ∙ ap ((joined v a b).apart j) (q ∙ sym p)
-    both_apart i j (inl p) (inr q) = ap (λ x. (joined v a b).apart x j) p ∙ apart_at_new v a b j ∙ sym (apart_to_new v a b j q) ∙ ap ((joined v a b).apart j) (sym p)
-    both_apart i j (inr p) (inl q) = ap ((joined v a b).apart i) q ∙ apart_to_new v a b i p ∙ sym (apart_at_new v a b i) ∙ ap (λ x. (joined v a b).apart x i) (sym q)
-    both_apart i j (inr p) (inr q) = apart_elsewhere v a b i j p q ∙ ap (λ t. (is_other v a b i && is_other v a b j) && t) (g.apart_symmetric i j) ∙ ap (λ t. t && v.apart j i) (and_comm (is_other v a b i) (is_other v a b j)) ∙ sym (apart_elsewhere v a b j i q p)
+    both_apart : (i j : ℕ) → (joined v a b).apart i j ≡ (joined v a b).apart j i
+    both_apart i j = grind (arith, nat_tests, g.apart_symmetric i j)
 
-    apart_then_live : (i j : ℕ) → (joined v a b).apart i j ≡ true → (i ≡ next v) ⊎ (i ≡ next v → ⊥) → (j ≡ next v) ⊎ (j ≡ next v → ⊥) → (joined v a b).live i ≡ true
-    apart_then_live i j e (inl p) q = ap (joined v a b).live p ∙ live_new v a b
-    apart_then_live i j e (inr p) (inl q) = live_other v a b i (and_parts (is_other v a b i) _ (sym (apart_to_new v a b i p) ∙ ap ((joined v a b).apart i) (sym q) ∙ e)).0
-    apart_then_live i j e (inr p) (inr q) = live_other v a b i (and_parts (is_other v a b i) (is_other v a b j) (and_parts (is_other v a b i && is_other v a b j) (v.apart i j) (sym (apart_elsewhere v a b i j p q) ∙ e)).0).0
+    apart_then_live : (i j : ℕ) → (joined v a b).apart i j ≡ true → (joined v a b).live i ≡ true
+    apart_then_live i j e = grind (arith, nat_tests)
 
-    not_itself : (i : ℕ) → (i ≡ next v) ⊎ (i ≡ next v → ⊥) → (joined v a b).apart i i ≡ false
-    not_itself i e = grind (arith, nat_tests, g.apart_other i)
+    not_itself : (i : ℕ) → (joined v a b).apart i i ≡ false
+    not_itself i = grind (arith, nat_tests, g.apart_other i)
 
-    held_then_live : (i p : ℕ) → (joined v a b).holds i p ≡ true → (i ≡ next v) ⊎ (i ≡ next v → ⊥) → (joined v a b).live i ≡ true
-    held_then_live i p e (inl q) = ap (joined v a b).live q ∙ live_new v a b
-    held_then_live i p e (inr d) = live_other v a b i (and_parts (is_other v a b i) (v.holds i p) (sym (holds_elsewhere v a b i p d) ∙ e)).0
+    held_then_live : (i p : ℕ) → (joined v a b).holds i p ≡ true → (joined v a b).live i ≡ true
+    held_then_live i p e = grind (arith, nat_tests)
 
-    of_either : (p : ℕ) → (v.holds a p ≡ true) ⊎ (v.holds b p ≡ true) → p < v.parts
-    of_either p (inl x) = g.holds_part a p x
-    of_either p (inr x) = g.holds_part b p x
-
-    held_part : (i p : ℕ) → (joined v a b).holds i p ≡ true → (i ≡ next v) ⊎ (i ≡ next v → ⊥) → p < v.parts
-    held_part i p e (inl q) = of_either p (or_cases (v.holds a p) (v.holds b p) (sym (holds_at_new v a b p) ∙ ap (λ x. (joined v a b).holds x p) (sym q) ∙ e))
-    held_part i p e (inr d) = g.holds_part i p (and_parts (is_other v a b i) (v.holds i p) (sym (holds_elsewhere v a b i p d) ∙ e)).1
+    held_part : (i p : ℕ) → (joined v a b).holds i p ≡ true → p < v.parts
+    held_part i p e = grind (arith, nat_tests, g.holds_part a p, g.holds_part b p, g.holds_part i p)
 
     kept_part : (i p : ℕ) → is_other v a b i ≡ true → v.holds i p ≡ true → (joined v a b).holds i p ≡ true
     kept_part i p q h = holds_elsewhere v a b i p (not_new v a b n i q) ∙ and_from (is_other v a b i) (v.holds i p) q h
