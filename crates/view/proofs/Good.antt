@@ -3,8 +3,7 @@ use Rattle.std.proofs.Common.{⊎_elim, ◌≡◌, ℕ, suc, ◌+◌, ◌<◌, �
 use Rattle.std.specs.List.{range_with_len}
 use Rattle.std.proofs.lemmas.List.FromFn.{length-range_with_len}
 use Rattle.std.proofs.lemmas.Bool.Decides.{nat_tests}
-use Rattle.std.proofs.lemmas.Bool.{cases_eq, eq-eqb, ne_eqb, eqb-true, and_parts, and_from, and_left, and_right, or_cases, both_ways, not-true, or_left, or_right, false_from_ne_true}
-use Rattle.std.proofs.Math.Bool.{and_comm, or_comm}
+use Rattle.std.proofs.lemmas.Bool.{cases_eq, eq-eqb, eqb-true, and_parts, and_from, and_left, or_cases, both_ways, not-true, or_left, or_right, false_from_ne_true}
 use Rattle.view.specs.Good.{Good}
 use Rattle.view.specs.View.{View, width, ids, next, is_open}
 use Rattle.view.specs.Steps.{is_other, others, joined, separated}
@@ -103,7 +102,7 @@ good_joined v a b g o n = record {
   holds_part = held_part;
   some_part = λ i l. part_of i (live_cases v a b i l);
   held = λ p h. holder p (g.held p h) (cases_eq (g.held p h).0 a) (cases_eq (g.held p h).0 b);
-  held_once = λ p i j x y. once p i j x y (cases_eq i (next v)) (cases_eq j (next v));
+  held_once = once;
 }
   where
     at_live : (P : ℕ → Type 0) (i : ℕ) → (is_other v a b i ≡ true → P i) → P (next v) → (joined v a b).live i ≡ true → P i
@@ -136,21 +135,8 @@ good_joined v a b g o n = record {
     holder p h (inr d) (inl e) = (next v, holds_at_new v a b p ∙ or_right (v.holds a p) (v.holds b p) (ap (λ x. v.holds x p) (sym e) ∙ h.1))
     holder p h (inr d) (inr e) = (h.0, kept_part h.0 p (other_from v a b h.0 (g.holds_live h.0 p h.1) d e) h.1)
 
-    clash : (p j : ℕ) → (v.holds a p ≡ true) ⊎ (v.holds b p ≡ true) → is_other v a b j ≡ true → v.holds j p ≡ true → ⊥
-    clash p j (inl x) q y = (other_facts v a b j q).1 (g.held_once p j a y x)
-    clash p j (inr x) q y = (other_facts v a b j q).2 (g.held_once p j b y x)
-
-    new_parts : (p i : ℕ) → i ≡ next v → (joined v a b).holds i p ≡ true → (v.holds a p ≡ true) ⊎ (v.holds b p ≡ true)
-    new_parts p i e x = or_cases (v.holds a p) (v.holds b p) (sym (holds_at_new v a b p) ∙ ap (λ y. (joined v a b).holds y p) (sym e) ∙ x)
-
-    old_parts : (p i : ℕ) → (i ≡ next v → ⊥) → (joined v a b).holds i p ≡ true → (is_other v a b i ≡ true) × (v.holds i p ≡ true)
-    old_parts p i d x = and_parts (is_other v a b i) (v.holds i p) (sym (holds_elsewhere v a b i p d) ∙ x)
-
-    once : (p i j : ℕ) → (joined v a b).holds i p ≡ true → (joined v a b).holds j p ≡ true → (i ≡ next v) ⊎ (i ≡ next v → ⊥) → (j ≡ next v) ⊎ (j ≡ next v → ⊥) → i ≡ j
-    once p i j x y (inl d) (inl e) = d ∙ sym e
-    once p i j x y (inl d) (inr e) = let h = old_parts p j e y in absurd (clash p j (new_parts p i d x) h.0 h.1)
-    once p i j x y (inr d) (inl e) = let h = old_parts p i d x in absurd (clash p i (new_parts p j e y) h.0 h.1)
-    once p i j x y (inr d) (inr e) = g.held_once p i j (old_parts p i d x).1 (old_parts p j e y).1
+    once : (p i j : ℕ) → (joined v a b).holds i p ≡ true → (joined v a b).holds j p ≡ true → i ≡ j
+    once p i j x y = grind (arith, nat_tests, g.held_once p i j, g.held_once p i a, g.held_once p i b, g.held_once p j a, g.held_once p j b)
 
 pub good_separated : (v : View) (a b : ℕ) → Good v → Open v a b → Good (separated v a b)
 good_separated v a b g o = record {
@@ -158,9 +144,9 @@ good_separated v a b g o = record {
   few = g.few;
   live_in = g.live_in;
   live_below = g.live_below;
-  apart_symmetric = λ i j. ap (λ t. t || ((eqb i a && eqb j b) || (eqb i b && eqb j a))) (g.apart_symmetric i j) ∙ ap (λ t. v.apart j i || t) (or_comm (eqb i a && eqb j b) (eqb i b && eqb j a)) ∙ ap (λ t. v.apart j i || (t || (eqb i a && eqb j b))) (and_comm (eqb i b) (eqb j a)) ∙ ap (λ t. v.apart j i || ((eqb j a && eqb i b) || t)) (and_comm (eqb i a) (eqb j b));
-  apart_other = λ i. ap (λ t. t || ((eqb i a && eqb i b) || (eqb i b && eqb i a))) (g.apart_other i) ∙ none i (cases_eq i a);
-  apart_live = λ i j e. pick i j (or_cases (v.apart i j) ((eqb i a && eqb j b) || (eqb i b && eqb j a)) e);
+  apart_symmetric = both_apart;
+  apart_other = not_itself;
+  apart_live = apart_then_live;
   holds_live = g.holds_live;
   holds_part = g.holds_part;
   some_part = g.some_part;
@@ -168,14 +154,11 @@ good_separated v a b g o = record {
   held_once = g.held_once;
 }
   where
-    none : (i : ℕ) → (i ≡ a) ⊎ (i ≡ a → ⊥) → ((eqb i a && eqb i b) || (eqb i b && eqb i a)) ≡ false
-    none i (inl e) = ap (λ t. (eqb i a && t) || (t && eqb i a)) (ne_eqb i b (λ f. o.distinct (sym e ∙ f))) ∙ ap (λ t. t || false) (and_right (eqb i a) false refl)
-    none i (inr d) = ap (λ t. (t && eqb i b) || (eqb i b && t)) (ne_eqb i a d) ∙ and_right (eqb i b) false refl
+    both_apart : (i j : ℕ) → (separated v a b).apart i j ≡ (separated v a b).apart j i
+    both_apart i j = grind (arith, nat_tests, g.apart_symmetric i j)
 
-    pair : (i j : ℕ) → ((eqb i a && eqb j b) ≡ true) ⊎ ((eqb i b && eqb j a) ≡ true) → v.live i ≡ true
-    pair i j (inl e) = ap v.live (eqb-true i a (and_parts (eqb i a) (eqb j b) e).0) ∙ o.live_a
-    pair i j (inr e) = ap v.live (eqb-true i b (and_parts (eqb i b) (eqb j a) e).0) ∙ o.live_b
+    not_itself : (i : ℕ) → (separated v a b).apart i i ≡ false
+    not_itself i = let two = o.distinct in grind (arith, nat_tests, g.apart_other i)
 
-    pick : (i j : ℕ) → (v.apart i j ≡ true) ⊎ (((eqb i a && eqb j b) || (eqb i b && eqb j a)) ≡ true) → v.live i ≡ true
-    pick i j (inl e) = g.apart_live i j e
-    pick i j (inr e) = pair i j (or_cases (eqb i a && eqb j b) (eqb i b && eqb j a) e)
+    apart_then_live : (i j : ℕ) → (separated v a b).apart i j ≡ true → v.live i ≡ true
+    apart_then_live i j e = let l = o.live_a in let m = o.live_b in grind (arith, nat_tests, g.apart_live i j)
