@@ -1,5 +1,5 @@
 -- Live ids picked out of all ids, and the values of their pairs.
-use Rattle.std.proofs.Common.{◌≡◌, ℕ, zero, suc, ◌+◌, ◌<◌, ◌≤◌, Bool, true, false, cond, not, ◌&&◌, eqb, ◌⊎◌, List, [], ◌∷◌, ◌++◌, map, filter, sym, refl, ap, ◌∙◌, subst, inl, inr, append-nil, add-one, arith}
+use Rattle.std.proofs.Common.{◌≡◌, ℕ, zero, suc, ◌+◌, ◌<◌, ◌≤◌, Bool, true, false, not, ◌&&◌, eqb, ◌⊎◌, List, [], ◌∷◌, ◌++◌, map, filter, sym, refl, ap, ◌∙◌, subst, inl, inr, append-nil, add-one, arith}
 use mathlib.Core.List.Permᴰ
 use mathlib.Core.List.{Permᴰ, map-map}
 use Rattle.std.proofs.Math.Bool.{and-true}
@@ -20,11 +20,11 @@ kept_no p x xs e = cond-false (p x) (x ∷ filter p xs) (filter p xs) e
 
 pub kept_same : (p q : ℕ → Bool) (xs : List ℕ) → AllByRecursion (λ x. p x ≡ q x) xs → filter p xs ≡ filter q xs
 kept_same p q [] h = refl
-kept_same p q (x ∷ xs) h = ap (λ b. cond b (x ∷ filter p xs) (filter p xs)) h.0 ∙ ap (λ l. cond (q x) (x ∷ l) l) (kept_same p q xs h.1)
+kept_same p q (x ∷ xs) h = grind (arith, h.0, kept_same p q xs h.1)
 
 pub kept_alike : (p q : ℕ → Bool) → ((x : ℕ) → p x ≡ q x) → (xs : List ℕ) → filter p xs ≡ filter q xs
 kept_alike p q h [] = refl
-kept_alike p q h (x ∷ xs) = ap (λ b. cond b (x ∷ filter p xs) (filter p xs)) (h x) ∙ ap (λ l. cond (q x) (x ∷ l) l) (kept_alike p q h xs)
+kept_alike p q h (x ∷ xs) = grind (arith, h x, kept_alike p q h xs)
 
 pub counted : (s m : ℕ) → AllByRecursion (λ x. (s ≤ x) × (x < s + m)) (range_with_len s m)
 counted s zero = tt

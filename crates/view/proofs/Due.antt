@@ -35,7 +35,7 @@ map_alike f g [] h = refl
 map_alike f g (i ∷ is) h = ap₂ (λ x l. x ∷ l) (h i) (map_alike f g is h)
 
 pub open_swap : (v : View) → Good v → (i j : ℕ) → is_open v i j ≡ is_open v j i
-open_swap v g i j = ap (λ t. t && (not (eqb i j) && not (v.apart i j))) (and_comm (v.live i) (v.live j)) ∙ ap (λ t. (v.live j && v.live i) && (not t && not (v.apart i j))) (eqb_swap i j) ∙ ap (λ t. (v.live j && v.live i) && (not (eqb j i) && not t)) (g.apart_symmetric i j)
+open_swap v g i j = grind (arith, nat_tests, g.apart_symmetric i j)
 
 pub open_none : (v : View) (i j : ℕ) → (v.live i && v.live j) ≡ false → is_open v i j ≡ false
 open_none v i j e = and_left (v.live i && v.live j) (not (eqb i j) && not (v.apart i j)) e
