@@ -1,5 +1,5 @@
--- Clamped sums of whole numbers: what each rank of an amount keeps.
-use Rattle.std.specs.Prelude.{◌≡◌, ◌+◌, ◌≤◌, ℤ, ◌+ℤ◌, int_lt, unsigned_abs}
+-- Clamped sums of whole numbers: where all fit they are the sums themselves.
+use Rattle.std.specs.Prelude.{◌≡◌, ◌+◌, ◌≤◌, ℤ, ◌+ℤ◌, unsigned_abs}
 use Rattle.std.proofs.Common.{arith}
 use Rattle.std.proofs.Math.IntN.{+ℤ_assoc}
 use Rattle.std.proofs.lemmas.Int.{ints, clamps}
@@ -14,6 +14,3 @@ associates a b c h =
     let left = clamp_same (a +ℤ b) (omega (arith, ints)) in
     let right = clamp_same (b +ℤ c) (omega (arith, ints)) in
     cc (+ℤ_assoc a b c)
-
-pub shifts : (a b c : ℤ) → unsigned_abs a + unsigned_abs b + unsigned_abs c ≤ span_limit → int_lt (clamp (a +ℤ c)) (clamp (b +ℤ c)) ≡ int_lt a b
-shifts a b c h = grind (arith, ints, clamps)
