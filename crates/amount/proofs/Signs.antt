@@ -1,9 +1,8 @@
 -- What the laws give of signs: the parts of a sum, and their spans.
-use Rattle.std.proofs.Common.{◌≡◌, ℕ, ◌+◌, ◌*◌, ◌≤◌, true, false, sym, refl, ap, ◌∙◌, arith}
-use Rattle.std.proofs.lemmas.Bool.{cond_both}
+use Rattle.std.proofs.Common.{◌≡◌, ℕ, ◌+◌, ◌*◌, ◌≤◌, true, sym, ap, ◌∙◌, arith}
 use Rattle.amount.specs.Kind.{Kind, Laws, span_limit}
 use Rattle.amount.specs.Signs.{absolute, lesser, positive_part, negative_part, overlap, Merges, Mergeable}
-use Rattle.amount.proofs.Order.{Stand, under, level, over, stand, not_both, shifted}
+use Rattle.amount.proofs.Order.{not_both, shifted}
 use Rattle.amount.proofs.Totals.{neutral_right, exchange}
 
 module _ {A : Type 0} (k : Kind A) (laws : Laws k) where
@@ -39,65 +38,44 @@ module _ {A : Type 0} (k : Kind A) (laws : Laws k) where
       cc (laws.commutes x y h)
 
   pub span_positive_part : (x : A) → k.span (positive_part k x) ≤ k.span x
-  span_positive_part x = cond_both (k.below k.zero x) x k.zero (λ v. k.span v ≤ k.span x) (λ _. omega arith) (λ _. omega (arith, laws.span_zero))
+  span_positive_part x = grind (arith, laws.span_zero)
 
   pub span_negative_part : (x : A) → k.span (negative_part k x) ≤ k.span x
-  span_negative_part x = cond_both (k.below x k.zero) (k.opposite x) k.zero (λ v. k.span v ≤ k.span x) (λ _. omega (arith, laws.span_opposite x)) (λ _. omega (arith, laws.span_zero))
+  span_negative_part x = grind (arith, laws.span_opposite x, laws.span_zero)
 
   pub span_absolute : (x : A) → k.span (absolute k x) ≡ k.span x
-  span_absolute x = cond_both (k.below x k.zero) (k.opposite x) x (λ v. k.span v ≡ k.span x) (λ _. laws.span_opposite x) (λ _. refl)
+  span_absolute x = grind (arith, laws.span_opposite x)
 
   pub span_lesser : (x y : A) (n : ℕ) → k.span x ≤ n → k.span y ≤ n → k.span (lesser k x y) ≤ n
-  span_lesser x y n p q = cond_both (k.below y x) y x (λ v. k.span v ≤ n) (λ _. q) (λ _. p)
+  span_lesser x y n p q = grind arith
 
   pub span_overlap : (x y : A) → k.span (overlap k x y) ≤ k.span x + k.span y
-  span_overlap x y = cond_both _ (lesser k (absolute k x) (absolute k y)) k.zero (λ v. k.span v ≤ k.span x + k.span y)
-      (λ _. span_lesser (absolute k x) (absolute k y) (k.span x + k.span y) (omega (arith, span_absolute x)) (omega (arith, span_absolute y)))
-      (λ _. omega (arith, laws.span_zero))
+  span_overlap x y = grind (arith, laws.span_zero, laws.span_opposite x, laws.span_opposite y)
 
   -- the absolute amount is both parts together
   pub absolute_parts : (x : A) → absolute k x ≡ k.sum (positive_part k x) (negative_part k x)
-  absolute_parts x = go (stand k laws k.zero x)
-    where
-      go : Stand k k.zero x → absolute k x ≡ k.sum (positive_part k x) (negative_part k x)
-      go (under p q) = cc (neutral_right k laws x)
-      go (level e p q) = cc (laws.neutral x)
-      go (over p q) = cc (laws.neutral (k.opposite x))
+  absolute_parts x = let one = laws.ordered k.zero x in grind (arith, neutral_right k laws x, laws.neutral x, laws.neutral (k.opposite x))
 
   -- an amount and its negative part make its positive part
   pub negative_positive : (x : A) → 2 * k.span x ≤ span_limit → k.sum (negative_part k x) x ≡ positive_part k x
-  negative_positive x h = go (stand k laws k.zero x)
-    where
-      go : Stand k k.zero x → k.sum (negative_part k x) x ≡ positive_part k x
-      go (under p q) = cc (laws.neutral x)
-      go (level e p q) = cc (laws.neutral x)
-      go (over p q) = cc (cancels_left x h)
+  negative_positive x h = let one = laws.ordered k.zero x in let none = cancels_left x h in grind (arith, laws.neutral x)
 
+  -- by the signs of both, and with opposite signs by how each stands to the other's opposite
   pub positives_merge : (x y : A) → Mergeable k x y → k.sum (positive_part k x) (positive_part k y) ≡ k.sum (positive_part k (k.sum x y)) (overlap k x y)
-  positives_merge x y h = go (stand k laws k.zero x) (stand k laws k.zero y)
-    where
-      -- x positive, y negative
-      first_positive : k.below k.zero x ≡ true → k.below x k.zero ≡ false → k.below k.zero y ≡ false → k.below y k.zero ≡ true → Stand k x (k.opposite y) → k.sum (positive_part k x) (positive_part k y) ≡ k.sum (positive_part k (k.sum x y)) (overlap k x y)
-      first_positive p q r s (under a b) = cc (sum_over x y (omega arith), neutral_right k laws x, laws.neutral x)
-      first_positive p q r s (level e a b) = cc (sum_over x y (omega arith), neutral_right k laws x, laws.neutral x)
-      first_positive p q r s (over a b) = cc (sum_over x y (omega arith), neutral_right k laws x, sum_less x y (omega arith))
-
-      -- x negative, y positive
-      first_negative : k.below k.zero x ≡ false → k.below x k.zero ≡ true → k.below k.zero y ≡ true → k.below y k.zero ≡ false → Stand k y (k.opposite x) → k.sum (positive_part k x) (positive_part k y) ≡ k.sum (positive_part k (k.sum x y)) (overlap k x y)
-      first_negative p q r s (under a b) = cc (laws.commutes x y (omega arith), sum_over y x (omega arith))
-      first_negative p q r s (level e a b) = cc (laws.commutes x y (omega arith), sum_over y x (omega arith))
-      first_negative p q r s (over a b) = cc (laws.commutes x y (omega arith), sum_over y x (omega arith), laws.neutral y, sum_less y x (omega arith))
-
-      go : Stand k k.zero x → Stand k k.zero y → k.sum (positive_part k x) (positive_part k y) ≡ k.sum (positive_part k (k.sum x y)) (overlap k x y)
-      go (under p q) (under r s) = cc (both_positive x y (omega arith) p r, neutral_right k laws (k.sum x y))
-      go (under p q) (level e r s) = cc (neutral_right k laws x)
-      go (under p q) (over r s) = first_positive p q r s (stand k laws x (k.opposite y))
-      go (level e p q) (under r s) = cc (laws.neutral y, neutral_right k laws y)
-      go (level e p q) (level f r s) = cc (laws.neutral k.zero)
-      go (level e p q) (over r s) = cc (laws.neutral y)
-      go (over p q) (under r s) = first_negative p q r s (stand k laws y (k.opposite x))
-      go (over p q) (level f r s) = cc (neutral_right k laws x)
-      go (over p q) (over r s) = cc (not_both k laws (k.sum x y) k.zero (both_negative x y (omega arith) q s))
+  positives_merge x y h =
+      let sign_x = laws.ordered k.zero x in
+      let sign_y = laws.ordered k.zero y in
+      let over_y = laws.ordered x (k.opposite y) in
+      let over_x = laws.ordered y (k.opposite x) in
+      let more = both_positive x y (omega arith) in
+      let less = both_negative x y (omega arith) in
+      let one_way = not_both k laws (k.sum x y) k.zero in
+      let turned = laws.commutes x y (omega arith) in
+      let sign_over_y = sum_over x y (omega arith) in
+      let sign_over_x = sum_over y x (omega arith) in
+      let less_y = sum_less x y (omega arith) in
+      let less_x = sum_less y x (omega arith) in
+      grind (arith, laws.neutral x, laws.neutral y, laws.neutral k.zero, neutral_right k laws x, neutral_right k laws y, neutral_right k laws (k.sum x y))
 
   -- from the positive parts, by adding x + y to both sides
   pub negatives_merge : (x y : A) → Mergeable k x y → k.sum (negative_part k x) (negative_part k y) ≡ k.sum (negative_part k (k.sum x y)) (overlap k x y)

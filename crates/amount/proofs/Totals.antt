@@ -1,6 +1,7 @@
 -- What the laws give of totals: one lemma for each end of a list, and all else by induction.
 use Rattle.std.proofs.Common.{◌≡◌, ℕ, ◌+◌, ◌*◌, ◌≤◌, List, [], ◌∷◌, ◌++◌, map, length, fold, sym, refl, ap, ◌∙◌, arith}
 use mathlib.Core.List.{Permᴰ}
+use Rattle.std.proofs.lemmas.List.Sums.{fold-append}
 use Rattle.std.specs.List.{flat_map, AllByRecursion}
 use Rattle.amount.specs.Kind.{Kind, Laws, span_limit, AtMost}
 use Rattle.amount.specs.Totals.{total, spans, ExactTotals}
@@ -49,14 +50,7 @@ module _ {A : Type 0} (k : Kind A) (laws : Laws k) where
   spans_append (x ∷ xs) ys = omega (arith, spans_append xs ys)
 
   pub total_append : (xs ys : List A) → spans k xs + spans k ys ≤ span_limit → total k (xs ++ ys) ≡ k.sum (total k xs) (total k ys)
-  total_append [] ys h = sym (laws.neutral (total k ys))
-  total_append (x ∷ xs) ys h =
-      let a : k.span (total k xs) ≤ spans k xs = span_total xs (omega arith) in
-      let b : k.span (total k ys) ≤ spans k ys = span_total ys (omega arith) in
-      total_cons x (xs ++ ys) (omega (arith, spans_append xs ys))
-      ∙ ap (k.sum x) (total_append xs ys (omega arith))
-      ∙ sym (laws.associates x (total k xs) (total k ys) (omega arith))
-      ∙ ap (λ v. k.sum v (total k ys)) (sym (total_cons x xs (omega arith)))
+  total_append xs ys h = fold-append k.sum k.zero xs ys ∙ folded_from (total k xs) ys (omega (arith, span_total xs (omega arith)))
 
   spans_totals : (xss : List (List A)) → spans k (flat_map (λ xs. xs) xss) ≤ span_limit → spans k (map (total k) xss) ≤ spans k (flat_map (λ xs. xs) xss)
   spans_totals [] h = omega arith

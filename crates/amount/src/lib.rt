@@ -1,7 +1,7 @@
 // Amounts: what costs are counted in, and what holds of every kind of them.
 #![tactic(auto)]
 
-ghost use Rattle.std.specs.Prelude.{◌≡◌, Some, Decides};
+ghost use Rattle.std.specs.Prelude.{◌≡◌, ◌↔◌, IsTrue, Some};
 ghost use Rattle.amount.specs.Kind.{Kind, Laws};
 ghost use Rattle.amount.specs.Signs.{positive, negative, same, absolute, lesser, positive_part, negative_part, opposite_signs, overlap, Merges, Mergeable};
 ghost use Rattle.amount.specs.Totals.{total as total_of, ExactTotals};
@@ -140,7 +140,7 @@ pub trait Amount: Copy {
 // Whether two amounts are one.
 pub fn is_same<A: Amount>(x: A, y: A) -> bool
     ensures value { result ≡ same A.Amount.kind x y }
-    ensures means { Decides result (x ≡ y) }
+    ensures means { IsTrue result ↔ (x ≡ y) }
 {
     !x.is_below(y) && !y.is_below(x)
 }
@@ -169,9 +169,7 @@ pub fn total<A: Amount>(amounts: &[A]) -> A
     ensures value { result ≡ total_of A.Amount.kind amounts.now }
     ensures exact { ExactTotals A.Amount.kind }
 {
-    let mut sum = A::zero();
-    for amount in amounts {
-        sum = sum.sum(*amount);
-    }
-    sum
+    amounts
+        .iter()
+        .fold(A::zero(), |sum, amount| sum.sum(*amount))
 }

@@ -1,14 +1,16 @@
 // Amounts of one number.
-ghost use Rattle.std.specs.Prelude.{◌≡◌, ◌≤◌, MatchResult, unsigned_abs};
+ghost use Rattle.std.specs.Prelude.{◌≡◌, ◌≤◌, MatchResult, Some, unsigned_abs};
+ghost use Rattle.std.specs.Fmt.{signed_decimal};
 ghost use Rattle.amount.specs.Kind.{span_limit};
 ghost use Rattle.amount.specs.Refusals.{width_number};
 
 use crate::{SPAN_LIMIT, WidthRefusal};
+use std::fmt;
 
 pub(crate) mod kind;
 
 // One signed whole number; its span is its absolute value.
-#[derive(Clone, Copy, PartialEq, Eq, Debug)]
+#[derive(Clone, Copy, PartialEq, Eq, PartialOrd, Ord, Debug)]
 pub struct Single {
     value: i64,
     ghost narrow: { unsigned_abs value ≤ span_limit },
@@ -30,5 +32,14 @@ impl Single {
         ensures { result ≡ self.value }
     {
         self.value
+    }
+}
+
+// The number, in decimal.
+impl fmt::Display for Single {
+    ghost output = { λ single. Some (signed_decimal single.value) };
+
+    fn fmt<W: fmt::Write>(&self, f: &mut fmt::Formatter<W>) -> fmt::Result {
+        fmt::Display::fmt(&self.value, f)
     }
 }

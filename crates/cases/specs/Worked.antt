@@ -1,5 +1,5 @@
 -- The worked cases, as one table over the definitions that the contracts cite.
-use Rattle.std.specs.Prelude.{◌≡◌, ℕ, Bool, true, false, cond, ◌&&◌, ◌||◌, List, [], ◌∷◌, map, ℤ, pos, neg_ℤ, Some, Ok, ◌==◌}
+use Rattle.std.specs.Prelude.{◌≡◌, ℕ, Bool, true, false, if◌then◌else◌, ◌&&◌, ◌||◌, List, [], ◌∷◌, map, ℤ, pos, neg_ℤ, Some, Ok, ◌==◌}
 use Rattle.std.specs.List.{range_with_len, flat_map}
 use Rattle.amount.specs.Kind.{Kind}
 use Rattle.amount.specs.Single.{single, single_kind}
@@ -20,7 +20,7 @@ pub record Entry (X : Type 0) : Type 0 where
 -- the value at i, j, in either order; that of an unlisted pair is given
 abbrev pub listed : {X : Type 0} → X → List (Entry X) → ℕ → ℕ → X
 listed none [] i j = none
-listed none (e ∷ es) i j = cond ((e.one == i && e.other == j) || (e.one == j && e.other == i)) e.value (listed none es i j)
+listed none (e ∷ es) i j = if (e.one == i && e.other == j) || (e.one == j && e.other == i) then e.value else listed none es i j
 
 -- the square of n parts with these entries, row by row
 abbrev pub square_of : {X : Type 0} → X → ℕ → List (Entry X) → List X

@@ -8,7 +8,7 @@ ghost use Rattle.cases.specs.Worked.{square_of, at, worked_cases, Holds};
 
 use amount::{Amount, Ranked, Single};
 use job::{check, cost};
-use std::alloc::{AllocError, Global};
+use std::fmt::Display;
 
 #[cfg(test)]
 mod tests;
@@ -22,26 +22,6 @@ const GROUPINGS: [[usize; 3]; 5] = [[0, 1, 2], [0, 0, 2], [0, 1, 1], [0, 1, 0], 
 const UNMARKED: [bool; 9] = [false; 9];
 
 const MARKED: [bool; 9] = [false, true, false, true, false, false, false, false, false];
-
-// An amount that can be shown to a person.
-trait Shown: Amount {
-    fn text(self, heap: Global) -> Result<String, AllocError>;
-}
-
-impl Shown for Single {
-    fn text(self, heap: Global) -> Result<String, AllocError> {
-        let value = self.value();
-        format!(in heap; "{value}")
-    }
-}
-
-impl Shown for Ranked {
-    fn text(self, heap: Global) -> Result<String, AllocError> {
-        let first = self.first();
-        let second = self.second();
-        format!(in heap; "{first}/{second}")
-    }
-}
 
 // How many worked cases are proved: the table of them holds by computation over the definitions.
 pub fn worked_cases() -> usize
@@ -81,7 +61,7 @@ fn cheapest<A: Amount>(square: &[A], marks: &[bool]) -> Option<(usize, A)> {
 }
 
 // Prices one grouping of three parts.
-fn price_one<A: Shown>(
+fn price_one<A: Amount + Display>(
     rt: &HostRuntime,
     square: &[A],
     marks: &[bool],
@@ -89,8 +69,7 @@ fn price_one<A: Shown>(
 ) -> anyhow::Result<()> {
     match cost(PARTS, square, marks, labels) {
         Ok(price) => {
-            let text = price.text(rt.alloc())?;
-            println!(rt; "  {labels:?} costs {text}")?;
+            println!(rt; "  {labels:?} costs {price}")?;
         }
         Err(refusal) => {
             let number = refusal.number();
@@ -101,7 +80,11 @@ fn price_one<A: Shown>(
 }
 
 // Prices every grouping of three parts, and says which is cheapest.
-fn price_all<A: Shown>(rt: &HostRuntime, square: &[A], marks: &[bool]) -> anyhow::Result<()> {
+fn price_all<A: Amount + Display>(
+    rt: &HostRuntime,
+    square: &[A],
+    marks: &[bool],
+) -> anyhow::Result<()> {
     for labels in &GROUPINGS {
         price_one(rt, square, marks, labels)?;
     }
@@ -109,8 +92,7 @@ fn price_all<A: Shown>(rt: &HostRuntime, square: &[A], marks: &[bool]) -> anyhow
         return Ok(());
     };
     if let Some(labels) = GROUPINGS.get(place) {
-        let text = price.text(rt.alloc())?;
-        println!(rt; "  cheapest: {labels:?} at {text}")?;
+        println!(rt; "  cheapest: {labels:?} at {price}")?;
     }
     Ok(())
 }

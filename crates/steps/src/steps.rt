@@ -23,10 +23,9 @@ fn tell(
     match answer {
         Ok(taken) => {
             let (made, booked) = taken;
-            let amount = booked.value();
             match made {
-                Some(id) => println!(rt; "  {what}: makes id {id}, books {amount}")?,
-                None => println!(rt; "  {what}: books {amount}")?,
+                Some(id) => println!(rt; "  {what}: makes id {id}, books {booked}")?,
+                None => println!(rt; "  {what}: books {booked}")?,
             }
         }
         Err(refusal) => {
@@ -102,9 +101,6 @@ fn show_law(
             } else {
                 "is not"
             };
-            let booked = booked.value();
-            let rest = rest.value();
-            let price = price.value();
             println!(rt; "  {labels:?}: booked {booked} + remaining {rest} {sign} cost {price}")?;
         }
     }
@@ -132,7 +128,7 @@ fn show_list(rt: &HostRuntime, job: &Job<'_, Single>) -> anyhow::Result<()> {
         Step::Join(0, 1),
     ];
     let played = play(job, &mut cells, &steps)?;
-    let booked = played.booked.value();
+    let booked = played.booked;
     println!(rt; "  a list of four steps: booked {booked}")?;
     if let Some(refused) = played.refused {
         let place = refused.place;

@@ -1,7 +1,8 @@
 -- Live ids picked out of all ids, and the values of their pairs.
-use Rattle.std.proofs.Common.{◌≡◌, ℕ, zero, suc, ◌+◌, ◌<◌, ◌≤◌, Bool, true, false, cond, not, ◌&&◌, eqb, ◌⊎◌, List, [], ◌∷◌, ◌++◌, map, filter, sym, refl, ap, ◌∙◌, subst, inl, inr, append-nil, add-one, arith}
+use Rattle.std.proofs.Common.{◌≡◌, ℕ, zero, suc, ◌+◌, ◌<◌, ◌≤◌, Bool, true, false, not, ◌&&◌, eqb, ◌⊎◌, List, [], ◌∷◌, ◌++◌, map, filter, sym, refl, ap, ◌∙◌, subst, inl, inr, append-nil, add-one, arith}
 use mathlib.Core.List.Permᴰ
-use mathlib.Core.List.{Permᴰ}
+use mathlib.Core.List.{Permᴰ, map-map}
+use Rattle.std.proofs.Math.Bool.{and-true}
 use Rattle.std.specs.List.{range_with_len, AllByRecursion}
 use Rattle.std.proofs.lemmas.List.{map-append}
 use Rattle.std.proofs.lemmas.List.Elements.{filter-append}
@@ -19,11 +20,11 @@ kept_no p x xs e = cond-false (p x) (x ∷ filter p xs) (filter p xs) e
 
 pub kept_same : (p q : ℕ → Bool) (xs : List ℕ) → AllByRecursion (λ x. p x ≡ q x) xs → filter p xs ≡ filter q xs
 kept_same p q [] h = refl
-kept_same p q (x ∷ xs) h = ap (λ b. cond b (x ∷ filter p xs) (filter p xs)) h.0 ∙ ap (λ l. cond (q x) (x ∷ l) l) (kept_same p q xs h.1)
+kept_same p q (x ∷ xs) h = grind (arith, h.0, kept_same p q xs h.1)
 
 pub kept_alike : (p q : ℕ → Bool) → ((x : ℕ) → p x ≡ q x) → (xs : List ℕ) → filter p xs ≡ filter q xs
 kept_alike p q h [] = refl
-kept_alike p q h (x ∷ xs) = ap (λ b. cond b (x ∷ filter p xs) (filter p xs)) (h x) ∙ ap (λ l. cond (q x) (x ∷ l) l) (kept_alike p q h xs)
+kept_alike p q h (x ∷ xs) = grind (arith, h x, kept_alike p q h xs)
 
 pub counted : (s m : ℕ) → AllByRecursion (λ x. (s ≤ x) × (x < s + m)) (range_with_len s m)
 counted s zero = tt
@@ -50,11 +51,7 @@ front p x s (suc m) l h e = go (λ d. front p x (s + 1) m (omega arith) (omega a
         perm_from (kept_yes p s (range_with_len (s + 1) m) (ap p c ∙ e)) (ap (λ l. x ∷ l) (kept_no (but p x) s (range_with_len (s + 1) m) (and_right (p s) (not (eqb s x)) (not_from_true (eqb s x) (eq-eqb s x c))) ∙ sym past)) (Permᴰ.cons c (Permᴰ.refl (filter p (range_with_len (s + 1) m))))
       where
         later : (i : ℕ) → (i ≡ x → ⊥) → p i ≡ but p x i
-        later i d = sym (ap (λ t. p i && not t) (ne_eqb i x d) ∙ both (p i))
-          where
-            both : (t : Bool) → (t && true) ≡ t
-            both true = refl
-            both false = refl
+        later i d = sym (ap (λ t. p i && not t) (ne_eqb i x d) ∙ and-true (p i))
     go ih (inr d) (inl y) = perm_from (kept_yes p s (range_with_len (s + 1) m) y) (ap (λ l. x ∷ l) (kept_yes (but p x) s (range_with_len (s + 1) m) (and_from (p s) (not (eqb s x)) y (not_from_false (eqb s x) (ne_eqb s x d))))) (Permᴰ.trans (Permᴰ.cons refl (ih d)) (Permᴰ.swap refl refl))
     go ih (inr d) (inr n) = perm_from (kept_no p s (range_with_len (s + 1) m) n) (ap (λ l. x ∷ l) (kept_no (but p x) s (range_with_len (s + 1) m) (and_left (p s) (not (eqb s x)) n))) (ih d)
 
@@ -67,10 +64,6 @@ like_kept {X} {z} p g h (x ∷ xs) = go (like_kept p g h xs) (cases_Bool (p x))
     go rest (inl y) = like_trans (like_cons refl rest) (like_same (ap (map g) (sym (kept_yes p x xs y))))
     go rest (inr n) = like_trans (like_blank (h x n) rest) (like_same (ap (map g) (sym (kept_no p x xs n))))
 
-map_map : {X : Type 0} (F : ℕ × ℕ → X) (g : ℕ → ℕ × ℕ) (xs : List ℕ) → map F (map g xs) ≡ map (λ x. F (g x)) xs
-map_map F g [] = refl
-map_map F g (x ∷ xs) = ap (λ l. F (g x) ∷ l) (map_map F g xs)
-
 all_blank_row : {X : Type 0} {z : X} (g : ℕ → X) → ((x : ℕ) → g x ≡ z) → (xs : List ℕ) → AllByRecursion (λ x. x ≡ z) (map g xs)
 all_blank_row g h [] = tt
 all_blank_row g h (x ∷ xs) = (h x, all_blank_row g h xs)
@@ -81,7 +74,7 @@ module _ {X : Type 0} {z : X} (live : ℕ → Bool) (f : ℕ → ℕ → X) (bla
   F p = f p.0 p.1
 
   row_is : (m : ℕ) → map F (row m) ≡ map (λ i. f i m) (range_with_len 0 m)
-  row_is m = map_map F (λ i. (i, m)) (range_with_len 0 m)
+  row_is m = map-map F (λ i. (i, m)) (range_with_len 0 m)
 
   kept_push : (m : ℕ) → filter live (range_with_len 0 (m + 1)) ≡ filter live (range_with_len 0 m) ++ filter live (m ∷ [])
   kept_push m = ap (filter live) (counting_more m) ∙ filter-append live (range_with_len 0 m) (m ∷ [])

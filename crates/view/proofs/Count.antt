@@ -5,7 +5,6 @@ use Rattle.std.proofs.lemmas.Nat.{le-div, div_below}
 use Rattle.std.proofs.lemmas.List.{length-append}
 use Rattle.std.proofs.lemmas.List.FromFn.{length-map-range_with_len}
 use Rattle.std.proofs.ByRecursion.{All-weaker}
-use Rattle.std.proofs.lemmas.Bool.{cond_both}
 use Rattle.amount.specs.Kind.{Kind, Laws}
 use Rattle.job.specs.Job.{Job, Sound}
 use Rattle.job.specs.Tests.{row, pairs}
@@ -56,11 +55,7 @@ opens v = summed (map (λ p. open_one v p.0 p.1) (pairs (width v)))
 
 count_summed : (f : ℕ × ℕ → Bool) (ps : List (ℕ × ℕ)) → length (filter f ps) ≡ summed (map (λ p. one (f p)) ps)
 count_summed f [] = refl
-count_summed f (p ∷ ps) = go (f p) (count_summed f ps)
-  where
-    go : (t : Bool) → length (filter f ps) ≡ summed (map (λ q. one (f q)) ps) → length (cond t (p ∷ filter f ps) (filter f ps)) ≡ one t + summed (map (λ q. one (f q)) ps)
-    go true h = omega arith
-    go false h = omega arith
+count_summed f (p ∷ ps) = grind (arith, count_summed f ps)
 
 pub opens_is : (v : View) → open_count v ≡ opens v
 opens_is v = count_summed (λ p. is_open v p.0 p.1) (pairs (width v))
@@ -75,7 +70,7 @@ summed_under f g (x ∷ xs) h = omega (arith, h.0, summed_under f g xs h.1)
 
 ones : (f : ℕ × ℕ → Bool) (ps : List (ℕ × ℕ)) → summed (map (λ p. cond (f p) 1 0) ps) ≤ length ps
 ones f [] = omega arith
-ones f (p ∷ ps) = let h : cond (f p) 1 0 ≤ 1 = cond_both (f p) 1 0 (λ x. x ≤ 1) (λ _. omega arith) (λ _. omega arith) in omega (arith, ones f ps)
+ones f (p ∷ ps) = grind (arith, ones f ps)
 
 one_swap : (v : View) → Good v → (i j : ℕ) → open_one v i j ≡ open_one v j i
 one_swap v g i j = ap one (open_swap v g i j)
@@ -84,9 +79,7 @@ one_none : (v : View) (i j : ℕ) → (v.live i && v.live j) ≡ false → open_
 one_none v i j e = ap one (open_none v i j e)
 
 less_open : (x y : Bool) → cond (not (x || y)) 1 0 ≤ cond (not x) 1 0
-less_open true y = omega arith
-less_open false true = omega arith
-less_open false false = omega arith
+less_open x y = grind arith
 
 pub opens_start : {A : Type 0} (k : Kind A) (laws : Laws k) (job : Job A) → Sound k job → opens (start job) ≤ pair_count job.parts
 opens_start k laws job sound =

@@ -1,7 +1,8 @@
 -- What one pair of ids still costs, as one sum: the remaining cost is the total of these.
 use Rattle.std.proofs.Common.{◌≡◌, ℕ, ◌*◌, ◌≤◌, Bool, true, false, cond, not, ◌&&◌, eqb, ◌⊎◌, List, [], ◌∷◌, map, sym, refl, ap, ◌∙◌, ap₂, inl, inr, arith}
 use Rattle.std.specs.List.{AllByRecursion}
-use Rattle.std.proofs.lemmas.Bool.{cond-true, cond-false, cases_Bool, cases_eq, eq-eqb, ne_eqb, and_left, and_parts}
+use Rattle.std.proofs.lemmas.Bool.Decides.{nat_tests}
+use Rattle.std.proofs.lemmas.Bool.{cond-true, cond-false, cases_Bool, and_left, and_parts}
 use Rattle.amount.specs.Kind.{Kind, Laws, span_limit}
 use Rattle.amount.specs.Signs.{positive_part, negative_part}
 use Rattle.amount.specs.Totals.{total, spans}
@@ -13,7 +14,8 @@ use Rattle.job.specs.Tests.{pairs}
 use Rattle.view.specs.View.{live_amount, View, width, is_open, amount_in}
 use Rattle.view.specs.Remaining.{share, remaining, first_part}
 use Rattle.view.specs.Good.{Good}
-use Rattle.view.proofs.Good.{open_is, and_comm}
+use Rattle.view.proofs.Good.{open_is}
+use Rattle.std.proofs.Math.Bool.{and_comm}
 
 -- a pair's term: its negative part inside a group, its positive part between groups
 abbrev pub due : {A : Type 0} → Kind A → Bool → A → A
@@ -23,11 +25,7 @@ abbrev pub open_due : {A : Type 0} → Kind A → View → List A → List ℕ �
 open_due k v cells labels i j = cond (is_open v i j) (due k (share v labels i j) (amount_in k v cells i j)) k.zero
 
 pub eqb_swap : (i j : ℕ) → eqb i j ≡ eqb j i
-eqb_swap i j = go (cases_eq i j)
-  where
-    go : (i ≡ j) ⊎ (i ≡ j → ⊥) → eqb i j ≡ eqb j i
-    go (inl e) = eq-eqb i j e ∙ sym (eq-eqb j i (sym e))
-    go (inr d) = ne_eqb i j d ∙ sym (ne_eqb j i (λ e. d (sym e)))
+eqb_swap i j = grind (arith, nat_tests)
 
 pub map_same : {I X : Type 0} (f g : I → X) (is : List I) → AllByRecursion (λ i. f i ≡ g i) is → map f is ≡ map g is
 map_same f g [] h = refl
@@ -38,7 +36,7 @@ map_alike f g [] h = refl
 map_alike f g (i ∷ is) h = ap₂ (λ x l. x ∷ l) (h i) (map_alike f g is h)
 
 pub open_swap : (v : View) → Good v → (i j : ℕ) → is_open v i j ≡ is_open v j i
-open_swap v g i j = ap (λ t. t && (not (eqb i j) && not (v.apart i j))) (and_comm (v.live i) (v.live j)) ∙ ap (λ t. (v.live j && v.live i) && (not t && not (v.apart i j))) (eqb_swap i j) ∙ ap (λ t. (v.live j && v.live i) && (not (eqb j i) && not t)) (g.apart_symmetric i j)
+open_swap v g i j = grind (arith, nat_tests, g.apart_symmetric i j)
 
 pub open_none : (v : View) (i j : ℕ) → (v.live i && v.live j) ≡ false → is_open v i j ≡ false
 open_none v i j e = and_left (v.live i && v.live j) (not (eqb i j) && not (v.apart i j)) e
@@ -49,8 +47,7 @@ module _ {A : Type 0} (k : Kind A) (laws : Laws k) where
   spans_map_under f g (i ∷ is) h = omega (arith, h i, spans_map_under f g is h)
 
   term_sum : (s : Bool) (x : A) → k.sum (separating_term k s x) (joining_term k s x) ≡ due k s x
-  term_sum true x = laws.neutral (negative_part k x)
-  term_sum false x = neutral_right k laws (positive_part k x)
+  term_sum s x = grind (arith, laws.neutral (negative_part k x), neutral_right k laws (positive_part k x))
 
   pub span_due : (s : Bool) (x : A) → k.span (due k s x) ≤ k.span x
   span_due true x = span_negative_part k laws x

@@ -1,8 +1,9 @@
 -- What every reached view keeps: ids are in bounds, apart is symmetric, and the parts are divided among the live ids.
-use Rattle.std.proofs.Common.{◌≡◌, ℕ, suc, ◌+◌, ◌<◌, ◌≤◌, Bool, true, false, cond, not, ◌&&◌, ◌||◌, eqb, ◌⊎◌, List, [], ◌∷◌, length, filter, sym, refl, ap, ◌∙◌, subst, inl, inr, arith}
+use Rattle.std.proofs.Common.{⊎_elim, ◌≡◌, ℕ, suc, ◌+◌, ◌<◌, ◌≤◌, Bool, true, false, not, ◌&&◌, ◌||◌, eqb, ◌⊎◌, List, [], ◌∷◌, length, filter, sym, refl, ap, ◌∙◌, subst, inl, inr, arith}
 use Rattle.std.specs.List.{range_with_len}
 use Rattle.std.proofs.lemmas.List.FromFn.{length-range_with_len}
-use Rattle.std.proofs.lemmas.Bool.{cases_eq, eq-eqb, ne_eqb, eqb-true, and_parts, and_from, and_left, and_right, or_cases, both_ways, not-true, cond-true, cond-false, or_left, or_right}
+use Rattle.std.proofs.lemmas.Bool.Decides.{nat_tests}
+use Rattle.std.proofs.lemmas.Bool.{cases_eq, eq-eqb, eqb-true, and_parts, and_from, and_left, or_cases, both_ways, not-true, or_left, or_right, false_from_ne_true}
 use Rattle.view.specs.Good.{Good}
 use Rattle.view.specs.View.{View, width, ids, next, is_open}
 use Rattle.view.specs.Steps.{is_other, others, joined, separated}
@@ -29,11 +30,7 @@ open_is v a b e =
 
 pub kept_le : (p : ℕ → Bool) (xs : List ℕ) → length (filter p xs) ≤ length xs
 kept_le p [] = omega arith
-kept_le p (x ∷ xs) = go (p x) (kept_le p xs)
-  where
-    go : (t : Bool) → length (filter p xs) ≤ length xs → length (cond t (x ∷ filter p xs) (filter p xs)) ≤ length (x ∷ xs)
-    go true h = omega arith
-    go false h = omega arith
+kept_le p (x ∷ xs) = grind (arith, kept_le p xs)
 
 -- the new id: not live before, and the last one then
 pub record New (v : View) (a b : ℕ) : Type 0 where
@@ -42,13 +39,9 @@ pub record New (v : View) (a b : ℕ) : Type 0 where
   pub fits : next v < width v
   pub grows : next (joined v a b) ≡ next v + 1
 
-denied : (b : Bool) → (b ≡ true → ⊥) → b ≡ false
-denied true h = absurd (h refl)
-denied false h = refl
-
 pub new_id : (v : View) (a b : ℕ) → Good v → Open v a b → New v a b
 new_id v a b g o =
-    let unused : v.live (next v) ≡ false = denied (v.live (next v)) (λ l. let m : next v < next v = g.live_below (next v) l in let no : ⊥ = omega arith in no) in
+    let unused : v.live (next v) ≡ false = false_from_ne_true (v.live (next v)) (λ l. let m : next v < next v = g.live_below (next v) l in let no : ⊥ = omega arith in no) in
     let other : is_other v a b (next v) ≡ false = and_left (v.live (next v)) _ unused in
     let all : length (ids v) ≤ width v = omega (arith, kept_le v.live (range_with_len 0 (width v)), length-range_with_len 0 (width v)) in
     let many : length (ids v) ≡ suc (suc (length (others v a b))) = length_perm (before v a b o.live_a o.live_b o.distinct (g.live_in a o.live_a) (g.live_in b o.live_b)) in
@@ -59,13 +52,10 @@ new_id v a b g o =
 -- What holds of a joined view, case by case.
 module _ (v : View) (a b : ℕ) where
   pub other_facts : (i : ℕ) → is_other v a b i ≡ true → (v.live i ≡ true) × (i ≡ a → ⊥) × (i ≡ b → ⊥)
-  other_facts i e =
-      let h = and_parts (v.live i) (not (eqb i a) && not (eqb i b)) e in
-      let r = and_parts (not (eqb i a)) (not (eqb i b)) h.1 in
-      (h.0, λ s. both_ways (eqb i a) (not-true (eqb i a) r.0) (eq-eqb i a s), λ s. both_ways (eqb i b) (not-true (eqb i b) r.1) (eq-eqb i b s))
+  other_facts i e = grind (arith, nat_tests)
 
   pub other_from : (i : ℕ) → v.live i ≡ true → (i ≡ a → ⊥) → (i ≡ b → ⊥) → is_other v a b i ≡ true
-  other_from i l p q = and_from (v.live i) (not (eqb i a) && not (eqb i b)) l (and_from (not (eqb i a)) (not (eqb i b)) (ap not (ne_eqb i a p)) (ap not (ne_eqb i b q)))
+  other_from i l p q = grind (arith, nat_tests)
 
   pub live_cases : (i : ℕ) → (joined v a b).live i ≡ true → (is_other v a b i ≡ true) ⊎ (i ≡ next v)
   live_cases i e = go (or_cases (is_other v a b i) (eqb i (next v)) e)
@@ -81,25 +71,19 @@ module _ (v : View) (a b : ℕ) where
   live_new = or_right (is_other v a b (next v)) (eqb (next v) (next v)) (eq-eqb (next v) (next v) refl)
 
   pub holds_at_new : (p : ℕ) → (joined v a b).holds (next v) p ≡ (v.holds a p || v.holds b p)
-  holds_at_new p = cond-true (eqb (next v) (next v)) _ _ (eq-eqb (next v) (next v) refl)
+  holds_at_new p = grind (arith, nat_tests)
 
   pub holds_elsewhere : (i p : ℕ) → (i ≡ next v → ⊥) → (joined v a b).holds i p ≡ (is_other v a b i && v.holds i p)
-  holds_elsewhere i p d = cond-false (eqb i (next v)) _ _ (ne_eqb i (next v) d)
+  holds_elsewhere i p d = grind (arith, nat_tests)
 
   pub apart_at_new : (j : ℕ) → (joined v a b).apart (next v) j ≡ (is_other v a b j && (v.apart a j || v.apart b j))
-  apart_at_new j = cond-true (eqb (next v) (next v)) _ _ (eq-eqb (next v) (next v) refl)
+  apart_at_new j = grind (arith, nat_tests)
 
   pub apart_to_new : (i : ℕ) → (i ≡ next v → ⊥) → (joined v a b).apart i (next v) ≡ (is_other v a b i && (v.apart a i || v.apart b i))
-  apart_to_new i d = cond-false (eqb i (next v)) _ _ (ne_eqb i (next v) d) ∙ cond-true (eqb (next v) (next v)) _ _ (eq-eqb (next v) (next v) refl)
+  apart_to_new i d = grind (arith, nat_tests)
 
   pub apart_elsewhere : (i j : ℕ) → (i ≡ next v → ⊥) → (j ≡ next v → ⊥) → (joined v a b).apart i j ≡ ((is_other v a b i && is_other v a b j) && v.apart i j)
-  apart_elsewhere i j d e = cond-false (eqb i (next v)) _ _ (ne_eqb i (next v) d) ∙ cond-false (eqb j (next v)) _ _ (ne_eqb j (next v) e)
-
-and_swap : (x y z : Bool) → ((x && y) && z) ≡ ((y && x) && z)
-and_swap true true z = refl
-and_swap true false z = refl
-and_swap false true z = refl
-and_swap false false z = refl
+  apart_elsewhere i j d e = grind (arith, nat_tests)
 
 -- no other id is the new one
 pub not_new : (v : View) (a b : ℕ) → New v a b → (i : ℕ) → is_other v a b i ≡ true → i ≡ next v → ⊥
@@ -111,49 +95,33 @@ good_joined v a b g o n = record {
   few = g.few;
   live_in = λ i l. at_live (λ j. j < width v) i (λ q. g.live_in i (other_facts v a b i q).0) n.fits l;
   live_below = λ i l. at_live (λ j. j < next (joined v a b)) i (λ q. let h : i < next v = g.live_below i (other_facts v a b i q).0 in omega (arith, n.grows)) (omega (arith, n.grows)) l;
-  apart_symmetric = λ i j. both_apart i j (cases_eq i (next v)) (cases_eq j (next v));
-  apart_live = λ i j e. apart_then_live i j e (cases_eq i (next v)) (cases_eq j (next v));
-  apart_other = λ i. not_itself i (cases_eq i (next v));
-  holds_live = λ i p e. held_then_live i p e (cases_eq i (next v));
-  holds_part = λ i p e. held_part i p e (cases_eq i (next v));
+  apart_symmetric = both_apart;
+  apart_live = apart_then_live;
+  apart_other = not_itself;
+  holds_live = held_then_live;
+  holds_part = held_part;
   some_part = λ i l. part_of i (live_cases v a b i l);
   held = λ p h. holder p (g.held p h) (cases_eq (g.held p h).0 a) (cases_eq (g.held p h).0 b);
-  held_once = λ p i j x y. once p i j x y (cases_eq i (next v)) (cases_eq j (next v));
+  held_once = once;
 }
   where
     at_live : (P : ℕ → Type 0) (i : ℕ) → (is_other v a b i ≡ true → P i) → P (next v) → (joined v a b).live i ≡ true → P i
-    at_live P i other new l = go (live_cases v a b i l)
-      where
-        go : (is_other v a b i ≡ true) ⊎ (i ≡ next v) → P i
-        go (inl q) = other q
-        go (inr e) = subst P (sym e) new
+    at_live P i other new l = ⊎_elim other (λ e. subst P (sym e) new) (live_cases v a b i l)
 
-    both_apart : (i j : ℕ) → (i ≡ next v) ⊎ (i ≡ next v → ⊥) → (j ≡ next v) ⊎ (j ≡ next v → ⊥) → (joined v a b).apart i j ≡ (joined v a b).apart j i
-    both_apart i j (inl p) (inl q) = ap (λ x. (joined v a b).apart x j) (p ∙ sym q) ∙ ap ((joined v a b).apart j) (q ∙ sym p)
-    both_apart i j (inl p) (inr q) = ap (λ x. (joined v a b).apart x j) p ∙ apart_at_new v a b j ∙ sym (apart_to_new v a b j q) ∙ ap ((joined v a b).apart j) (sym p)
-    both_apart i j (inr p) (inl q) = ap ((joined v a b).apart i) q ∙ apart_to_new v a b i p ∙ sym (apart_at_new v a b i) ∙ ap (λ x. (joined v a b).apart x i) (sym q)
-    both_apart i j (inr p) (inr q) = apart_elsewhere v a b i j p q ∙ ap (λ t. (is_other v a b i && is_other v a b j) && t) (g.apart_symmetric i j) ∙ and_swap (is_other v a b i) (is_other v a b j) (v.apart j i) ∙ sym (apart_elsewhere v a b j i q p)
+    both_apart : (i j : ℕ) → (joined v a b).apart i j ≡ (joined v a b).apart j i
+    both_apart i j = grind (arith, nat_tests, g.apart_symmetric i j)
 
-    apart_then_live : (i j : ℕ) → (joined v a b).apart i j ≡ true → (i ≡ next v) ⊎ (i ≡ next v → ⊥) → (j ≡ next v) ⊎ (j ≡ next v → ⊥) → (joined v a b).live i ≡ true
-    apart_then_live i j e (inl p) q = ap (joined v a b).live p ∙ live_new v a b
-    apart_then_live i j e (inr p) (inl q) = live_other v a b i (and_parts (is_other v a b i) _ (sym (apart_to_new v a b i p) ∙ ap ((joined v a b).apart i) (sym q) ∙ e)).0
-    apart_then_live i j e (inr p) (inr q) = live_other v a b i (and_parts (is_other v a b i) (is_other v a b j) (and_parts (is_other v a b i && is_other v a b j) (v.apart i j) (sym (apart_elsewhere v a b i j p q) ∙ e)).0).0
+    apart_then_live : (i j : ℕ) → (joined v a b).apart i j ≡ true → (joined v a b).live i ≡ true
+    apart_then_live i j e = grind (arith, nat_tests)
 
-    not_itself : (i : ℕ) → (i ≡ next v) ⊎ (i ≡ next v → ⊥) → (joined v a b).apart i i ≡ false
-    not_itself i (inl e) = ap (λ x. (joined v a b).apart x x) e ∙ apart_at_new v a b (next v) ∙ and_left (is_other v a b (next v)) _ n.no_other
-    not_itself i (inr d) = apart_elsewhere v a b i i d d ∙ and_right (is_other v a b i && is_other v a b i) (v.apart i i) (g.apart_other i)
+    not_itself : (i : ℕ) → (joined v a b).apart i i ≡ false
+    not_itself i = grind (arith, nat_tests, g.apart_other i)
 
-    held_then_live : (i p : ℕ) → (joined v a b).holds i p ≡ true → (i ≡ next v) ⊎ (i ≡ next v → ⊥) → (joined v a b).live i ≡ true
-    held_then_live i p e (inl q) = ap (joined v a b).live q ∙ live_new v a b
-    held_then_live i p e (inr d) = live_other v a b i (and_parts (is_other v a b i) (v.holds i p) (sym (holds_elsewhere v a b i p d) ∙ e)).0
+    held_then_live : (i p : ℕ) → (joined v a b).holds i p ≡ true → (joined v a b).live i ≡ true
+    held_then_live i p e = grind (arith, nat_tests)
 
-    of_either : (p : ℕ) → (v.holds a p ≡ true) ⊎ (v.holds b p ≡ true) → p < v.parts
-    of_either p (inl x) = g.holds_part a p x
-    of_either p (inr x) = g.holds_part b p x
-
-    held_part : (i p : ℕ) → (joined v a b).holds i p ≡ true → (i ≡ next v) ⊎ (i ≡ next v → ⊥) → p < v.parts
-    held_part i p e (inl q) = of_either p (or_cases (v.holds a p) (v.holds b p) (sym (holds_at_new v a b p) ∙ ap (λ x. (joined v a b).holds x p) (sym q) ∙ e))
-    held_part i p e (inr d) = g.holds_part i p (and_parts (is_other v a b i) (v.holds i p) (sym (holds_elsewhere v a b i p d) ∙ e)).1
+    held_part : (i p : ℕ) → (joined v a b).holds i p ≡ true → p < v.parts
+    held_part i p e = grind (arith, nat_tests, g.holds_part a p, g.holds_part b p, g.holds_part i p)
 
     kept_part : (i p : ℕ) → is_other v a b i ≡ true → v.holds i p ≡ true → (joined v a b).holds i p ≡ true
     kept_part i p q h = holds_elsewhere v a b i p (not_new v a b n i q) ∙ and_from (is_other v a b i) (v.holds i p) q h
@@ -167,34 +135,8 @@ good_joined v a b g o n = record {
     holder p h (inr d) (inl e) = (next v, holds_at_new v a b p ∙ or_right (v.holds a p) (v.holds b p) (ap (λ x. v.holds x p) (sym e) ∙ h.1))
     holder p h (inr d) (inr e) = (h.0, kept_part h.0 p (other_from v a b h.0 (g.holds_live h.0 p h.1) d e) h.1)
 
-    clash : (p j : ℕ) → (v.holds a p ≡ true) ⊎ (v.holds b p ≡ true) → is_other v a b j ≡ true → v.holds j p ≡ true → ⊥
-    clash p j (inl x) q y = (other_facts v a b j q).1 (g.held_once p j a y x)
-    clash p j (inr x) q y = (other_facts v a b j q).2 (g.held_once p j b y x)
-
-    new_parts : (p i : ℕ) → i ≡ next v → (joined v a b).holds i p ≡ true → (v.holds a p ≡ true) ⊎ (v.holds b p ≡ true)
-    new_parts p i e x = or_cases (v.holds a p) (v.holds b p) (sym (holds_at_new v a b p) ∙ ap (λ y. (joined v a b).holds y p) (sym e) ∙ x)
-
-    old_parts : (p i : ℕ) → (i ≡ next v → ⊥) → (joined v a b).holds i p ≡ true → (is_other v a b i ≡ true) × (v.holds i p ≡ true)
-    old_parts p i d x = and_parts (is_other v a b i) (v.holds i p) (sym (holds_elsewhere v a b i p d) ∙ x)
-
-    once : (p i j : ℕ) → (joined v a b).holds i p ≡ true → (joined v a b).holds j p ≡ true → (i ≡ next v) ⊎ (i ≡ next v → ⊥) → (j ≡ next v) ⊎ (j ≡ next v → ⊥) → i ≡ j
-    once p i j x y (inl d) (inl e) = d ∙ sym e
-    once p i j x y (inl d) (inr e) = let h = old_parts p j e y in absurd (clash p j (new_parts p i d x) h.0 h.1)
-    once p i j x y (inr d) (inl e) = let h = old_parts p i d x in absurd (clash p i (new_parts p j e y) h.0 h.1)
-    once p i j x y (inr d) (inr e) = g.held_once p i j (old_parts p i d x).1 (old_parts p j e y).1
-
-or_swap : (x y z : Bool) → (x || (y || z)) ≡ (x || (z || y))
-or_swap true y z = refl
-or_swap false true true = refl
-or_swap false true false = refl
-or_swap false false true = refl
-or_swap false false false = refl
-
-pub and_comm : (x y : Bool) → (x && y) ≡ (y && x)
-and_comm true true = refl
-and_comm true false = refl
-and_comm false true = refl
-and_comm false false = refl
+    once : (p i j : ℕ) → (joined v a b).holds i p ≡ true → (joined v a b).holds j p ≡ true → i ≡ j
+    once p i j x y = grind (arith, nat_tests, g.held_once p i j, g.held_once p i a, g.held_once p i b, g.held_once p j a, g.held_once p j b)
 
 pub good_separated : (v : View) (a b : ℕ) → Good v → Open v a b → Good (separated v a b)
 good_separated v a b g o = record {
@@ -202,9 +144,9 @@ good_separated v a b g o = record {
   few = g.few;
   live_in = g.live_in;
   live_below = g.live_below;
-  apart_symmetric = λ i j. ap (λ t. t || ((eqb i a && eqb j b) || (eqb i b && eqb j a))) (g.apart_symmetric i j) ∙ or_swap (v.apart j i) (eqb i a && eqb j b) (eqb i b && eqb j a) ∙ ap (λ t. v.apart j i || (t || (eqb i a && eqb j b))) (and_comm (eqb i b) (eqb j a)) ∙ ap (λ t. v.apart j i || ((eqb j a && eqb i b) || t)) (and_comm (eqb i a) (eqb j b));
-  apart_other = λ i. ap (λ t. t || ((eqb i a && eqb i b) || (eqb i b && eqb i a))) (g.apart_other i) ∙ none i (cases_eq i a);
-  apart_live = λ i j e. pick i j (or_cases (v.apart i j) ((eqb i a && eqb j b) || (eqb i b && eqb j a)) e);
+  apart_symmetric = both_apart;
+  apart_other = not_itself;
+  apart_live = apart_then_live;
   holds_live = g.holds_live;
   holds_part = g.holds_part;
   some_part = g.some_part;
@@ -212,14 +154,11 @@ good_separated v a b g o = record {
   held_once = g.held_once;
 }
   where
-    none : (i : ℕ) → (i ≡ a) ⊎ (i ≡ a → ⊥) → ((eqb i a && eqb i b) || (eqb i b && eqb i a)) ≡ false
-    none i (inl e) = ap (λ t. (eqb i a && t) || (t && eqb i a)) (ne_eqb i b (λ f. o.distinct (sym e ∙ f))) ∙ ap (λ t. t || false) (and_right (eqb i a) false refl)
-    none i (inr d) = ap (λ t. (t && eqb i b) || (eqb i b && t)) (ne_eqb i a d) ∙ and_right (eqb i b) false refl
+    both_apart : (i j : ℕ) → (separated v a b).apart i j ≡ (separated v a b).apart j i
+    both_apart i j = grind (arith, nat_tests, g.apart_symmetric i j)
 
-    pair : (i j : ℕ) → ((eqb i a && eqb j b) ≡ true) ⊎ ((eqb i b && eqb j a) ≡ true) → v.live i ≡ true
-    pair i j (inl e) = ap v.live (eqb-true i a (and_parts (eqb i a) (eqb j b) e).0) ∙ o.live_a
-    pair i j (inr e) = ap v.live (eqb-true i b (and_parts (eqb i b) (eqb j a) e).0) ∙ o.live_b
+    not_itself : (i : ℕ) → (separated v a b).apart i i ≡ false
+    not_itself i = let two = o.distinct in grind (arith, nat_tests, g.apart_other i)
 
-    pick : (i j : ℕ) → (v.apart i j ≡ true) ⊎ (((eqb i a && eqb j b) || (eqb i b && eqb j a)) ≡ true) → v.live i ≡ true
-    pick i j (inl e) = g.apart_live i j e
-    pick i j (inr e) = pair i j (or_cases (eqb i a && eqb j b) (eqb i b && eqb j a) e)
+    apart_then_live : (i j : ℕ) → (separated v a b).apart i j ≡ true → v.live i ≡ true
+    apart_then_live i j e = let l = o.live_a in let m = o.live_b in grind (arith, nat_tests, g.apart_live i j)

@@ -1,7 +1,8 @@
 -- A join, id by id: what the new id reads, whom it shares a group with, and what is booked for each other one.
 use Rattle.std.proofs.Common.{◌≡◌, ℕ, zero, suc, ◌+◌, ◌*◌, ◌<◌, ◌≤◌, Bool, true, false, cond, not, ◌&&◌, ◌||◌, eqb, ◌⊎◌, List, ◌∷◌, Some, None, find, Option, unwrap_or, sym, refl, ap, ◌∙◌, ap₂, inl, inr, arith}
 use Rattle.std.specs.List.{range_with_len}
-use Rattle.std.proofs.lemmas.Bool.{cond-true, cond-false, cases_Bool, cases_eq, eq-eqb, ne_eqb, and_left, and_from, both_ways, or_right}
+use Rattle.std.proofs.lemmas.Bool.Decides.{nat_tests}
+use Rattle.std.proofs.lemmas.Bool.{cond-true, cond-false, eq-eqb, ne_eqb, and_left, and_from, or_right}
 use Rattle.amount.specs.Kind.{Kind, Laws, span_limit}
 use Rattle.amount.specs.Signs.{positive_part, negative_part, overlap}
 use Rattle.amount.proofs.Totals.{neutral_right}
@@ -12,54 +13,38 @@ use Rattle.view.specs.Steps.{is_other, joined, joined_cells, join_other}
 use Rattle.view.specs.Remaining.{RespectsBoard, first_part, share}
 use Rattle.view.proofs.Cells.{amount_rewritten}
 use Rattle.view.specs.Good.{Good}
-use Rattle.view.proofs.Good.{Open, New, good_joined, other_facts, live_cases, live_other, live_new, holds_at_new, holds_elsewhere, apart_at_new, apart_elsewhere, not_new}
+use Rattle.view.proofs.Good.{Open, New, good_joined, other_facts, live_cases, live_other, live_new, holds_at_new, holds_elsewhere, apart_at_new, not_new}
 use Rattle.view.proofs.Due.{due, open_due}
 
 -- the first that passes a test, and 0 if none does
 abbrev first : (ℕ → Bool) → List ℕ → ℕ
 first q xs = unwrap_or (find q xs) 0
 
-first_yes : (q : ℕ → Bool) (x : ℕ) (xs : List ℕ) → q x ≡ true → first q (x ∷ xs) ≡ x
-first_yes q x xs e = ap (λ o. unwrap_or o 0) (cond-true (q x) (Some x) (find q xs) e)
-
-first_no : (q : ℕ → Bool) (x : ℕ) (xs : List ℕ) → q x ≡ false → first q (x ∷ xs) ≡ first q xs
-first_no q x xs e = ap (λ o. unwrap_or o 0) (cond-false (q x) (Some x) (find q xs) e)
-
 -- the first that passes a test passes it
 first_holds : (q : ℕ → Bool) (s m p : ℕ) → s ≤ p → p < s + m → q p ≡ true → q (first q (range_with_len s m)) ≡ true
 first_holds q s zero p l h e = let no : ⊥ = omega arith in absurd no
-first_holds q s (suc m) p l h e = go (λ d. first_holds q (s + 1) m p (omega arith) (omega arith) e) (cases_Bool (q s))
-  where
-    go : ((s ≡ p → ⊥) → q (first q (range_with_len (s + 1) m)) ≡ true) → (q s ≡ true) ⊎ (q s ≡ false) → q (first q (range_with_len s (suc m))) ≡ true
-    go later (inl y) = ap q (first_yes q s (range_with_len (s + 1) m) y) ∙ y
-    go later (inr n) = ap q (first_no q s (range_with_len (s + 1) m) n) ∙ later (λ c. both_ways (q s) n (ap q c ∙ e))
+first_holds q s (suc m) p l h e = grind (arith, nat_tests, first_holds q (s + 1) m p)
 
 -- the first that passes a test is the one before which none does
 pub first_is : (q : ℕ → Bool) (s m p : ℕ) → s ≤ p → p < s + m → ((i : ℕ) → i < p → q i ≡ false) → q p ≡ true → first q (range_with_len s m) ≡ p
 first_is q s zero p l h none e = let no : ⊥ = omega arith in absurd no
-first_is q s (suc m) p l h none e = go (cases_eq s p) (λ d. first_is q (s + 1) m p (omega arith) (omega arith) none e)
-  where
-    go : (s ≡ p) ⊎ (s ≡ p → ⊥) → ((s ≡ p → ⊥) → first q (range_with_len (s + 1) m) ≡ p) → first q (range_with_len s (suc m)) ≡ p
-    go (inl c) later = first_yes q s (range_with_len (s + 1) m) (ap q c ∙ e) ∙ c
-    go (inr d) later = first_no q s (range_with_len (s + 1) m) (none s (omega arith)) ∙ later d
+first_is q s (suc m) p l h none e = let here = none s in let later = first_is q (s + 1) m p in grind (arith, nat_tests)
 
 pub first_held : (v : View) → Good v → (i : ℕ) → v.live i ≡ true → v.holds i (first_part v i) ≡ true
 first_held v g i l = let s = g.some_part i l in first_holds (v.holds i) 0 v.parts s.0 (omega arith) (omega (arith, g.holds_part i s.0 s.1)) s.1
 
 pub open_at : (v : View) (i j : ℕ) → v.live i ≡ true → v.live j ≡ true → (i ≡ j → ⊥) → is_open v i j ≡ not (v.apart i j)
-open_at v i j p q d = ap (λ t. t && (not (eqb i j) && not (v.apart i j))) (and_from (v.live i) (v.live j) p q) ∙ ap (λ t. not t && not (v.apart i j)) (ne_eqb i j d)
+open_at v i j p q d = grind (arith, nat_tests)
 
 module _ (v : View) (a b : ℕ) (g : Good v) (o : Open v a b) (n : New v a b) where
   pub first_same : (w : ℕ) → is_other v a b w ≡ true → first_part (joined v a b) w ≡ first_part v w
   first_same w q = ap (λ h. first h (range_with_len 0 v.parts)) (λ z p. (holds_elsewhere v a b w p (not_new v a b n w q) ∙ ap (λ t. t && v.holds w p) q) z)
 
   pub apart_same : (x y : ℕ) → is_other v a b x ≡ true → is_other v a b y ≡ true → (joined v a b).apart x y ≡ v.apart x y
-  apart_same x y p q = apart_elsewhere v a b x y (not_new v a b n x p) (not_new v a b n y q) ∙ ap (λ t. t && v.apart x y) (and_from (is_other v a b x) (is_other v a b y) p q)
+  apart_same x y p q = let out = not_new v a b n x p in let off = not_new v a b n y q in grind (arith, nat_tests)
 
   pub open_same : (x y : ℕ) → is_other v a b x ≡ true → is_other v a b y ≡ true → is_open (joined v a b) x y ≡ is_open v x y
-  open_same x y p q =
-      ap₂ (λ s t. s && (not (eqb x y) && not t)) (and_from ((joined v a b).live x) ((joined v a b).live y) (live_other v a b x p) (live_other v a b y q)) (apart_same x y p q)
-      ∙ sym (ap (λ s. s && (not (eqb x y) && not (v.apart x y))) (and_from (v.live x) (v.live y) (other_facts v a b x p).0 (other_facts v a b y q).0))
+  open_same x y p q = let same = apart_same x y p q in let one = other_facts v a b x p in let two = other_facts v a b y q in grind (arith, nat_tests)
 
   pub share_same : (labels : List ℕ) (x y : ℕ) → is_other v a b x ≡ true → is_other v a b y ≡ true → share (joined v a b) labels x y ≡ share v labels x y
   share_same labels x y p q = ap₂ (λ s t. eqb (label labels s) (label labels t)) (first_same x p) (first_same y q)

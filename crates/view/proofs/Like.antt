@@ -1,6 +1,7 @@
 -- Lists that are alike up to order and zeros, and the values of all pairs of a list.
 use Rattle.std.proofs.Common.{◌≡◌, ℕ, ◌+◌, ◌≤◌, List, [], ◌∷◌, ◌++◌, map, sym, refl, ap, ◌∙◌, subst, append_assoc, arith}
 use mathlib.Core.List.{Permᴰ}
+use Rattle.std.proofs.lemmas.List.{map-append}
 use Rattle.std.specs.List.{AllByRecursion}
 use Rattle.amount.specs.Kind.{Kind, Laws, span_limit}
 use Rattle.amount.specs.Totals.{total, spans}
@@ -81,11 +82,7 @@ module _ {X : Type 0} {z : X} (f : ℕ → ℕ → X) where
       like_trans
       (like_same (append_assoc (map (f x) xs) (vals f xs) (f x y ∷ map (λ v. f v y) xs)))
       (like_trans (like_append_left (map (f x) xs) (like_trans (like_back (f x y) (vals f xs) (map (λ v. f v y) xs)) (like_cons refl (vals_push xs y))))
-      (like_same (sym (append_assoc (map (f x) xs) (f x y ∷ []) (vals f (xs ++ (y ∷ [])))) ∙ ap (λ l. l ++ vals f (xs ++ (y ∷ []))) (sym (map_end (f x) xs y)))))
-    where
-      map_end : (g : ℕ → X) (us : List ℕ) (u : ℕ) → map g (us ++ (u ∷ [])) ≡ map g us ++ (g u ∷ [])
-      map_end g [] u = refl
-      map_end g (v ∷ us) u = ap (λ l. g v ∷ l) (map_end g us u)
+      (like_same (sym (append_assoc (map (f x) xs) (f x y ∷ []) (vals f (xs ++ (y ∷ [])))) ∙ ap (λ l. l ++ vals f (xs ++ (y ∷ []))) (sym (map-append (f x) xs (y ∷ []))))))
 
 -- two functions that agree on the pairs of a list
 pub vals_same : {X : Type 0} (f g : ℕ → ℕ → X) (P : ℕ → Type 0) → ((x y : ℕ) → P x → P y → f x y ≡ g x y) → (xs : List ℕ) → AllByRecursion P xs → vals f xs ≡ vals g xs

@@ -1,5 +1,5 @@
 -- The cost of a grouping is what remains on the loaded board.
-use Rattle.std.proofs.Common.{◌≡◌, ℕ, zero, suc, ◌+◌, ◌-◌, ◌<◌, ◌≤◌, Bool, true, false, cond, not, ◌&&◌, eqb, ltb, List, [], ◌∷◌, ◌++◌, map, filter, sym, refl, ap, ◌∙◌, ap₂, append-nil, arith}
+use Rattle.std.proofs.Common.{◌≡◌, ℕ, zero, suc, ◌+◌, ◌-◌, ◌<◌, ◌≤◌, Bool, false, cond, not, ◌&&◌, eqb, ltb, List, [], ◌∷◌, ◌++◌, map, filter, sym, ap, ◌∙◌, ap₂, append-nil, arith}
 use Rattle.std.specs.List.{range_with_len}
 use Rattle.std.proofs.lemmas.List.Elements.{filter-append}
 use Rattle.std.proofs.ByRecursion.{All-weaker}
@@ -29,8 +29,7 @@ kept_far live n (suc r) h =
     ∙ ap (λ l. filter live (range_with_len 0 (n + r)) ++ l) (kept_no live (n + r) [] (h (n + r) (omega arith))) ∙ append-nil (filter live (range_with_len 0 (n + r))) ∙ kept_far live n r h
 
 cond_not : {X : Type 0} (m : Bool) (x y : X) → cond (not m) x y ≡ cond m y x
-cond_not true x y = refl
-cond_not false x y = refl
+cond_not m x y = grind arith
 
 module _ {A : Type 0} (k : Kind A) (laws : Laws k) (job : Job A) (sound : Sound k job) where
   same_kept : filter (λ i. ltb i job.parts) (range_with_len 0 (width (start job))) ≡ filter (λ i. ltb i job.parts) (range_with_len 0 job.parts)

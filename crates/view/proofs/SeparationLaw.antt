@@ -1,7 +1,8 @@
 -- What remains before a separation is what it books and what remains after it.
-use Rattle.std.proofs.Common.{◌≡◌, ℕ, ◌+◌, ◌*◌, ◌≤◌, Bool, true, false, cond, not, ◌&&◌, ◌||◌, eqb, ◌⊎◌, List, ◌++◌, map, sym, refl, ap, ◌∙◌, ap₂, inl, inr, arith}
+use Rattle.std.proofs.Common.{◌≡◌, ℕ, ◌+◌, ◌*◌, ◌≤◌, true, cond, not, ◌&&◌, eqb, List, ◌++◌, map, sym, ap, ◌∙◌, ap₂, arith}
 use Rattle.std.proofs.ByRecursion.{All-weaker}
-use Rattle.std.proofs.lemmas.Bool.{cond-false, cases_eq, eq-eqb, ne_eqb, and_left, and_right, and_from}
+use Rattle.std.proofs.lemmas.Bool.Decides.{nat_tests}
+use Rattle.std.proofs.lemmas.Bool.{cond-false, ne_eqb}
 use Rattle.amount.specs.Kind.{Kind, Laws, span_limit}
 use Rattle.amount.specs.Totals.{total, spans}
 use Rattle.amount.proofs.Totals.{total_cons}
@@ -20,26 +21,10 @@ use Rattle.view.proofs.Joining.{first_held, open_at}
 module _ (v : View) (a b : ℕ) (g : Good v) (o : Open v a b) where
   -- but for the pair itself nothing changes
   apart_same : (i j : ℕ) → (i ≡ a → j ≡ b → ⊥) → (i ≡ b → j ≡ a → ⊥) → (separated v a b).apart i j ≡ v.apart i j
-  apart_same i j p q = ap (λ t. v.apart i j || t) (ap₂ (λ s t. s || t) (neither i a j b p) (neither i b j a q)) ∙ plain (v.apart i j)
-    where
-      neither : (x y z w : ℕ) → (x ≡ y → z ≡ w → ⊥) → (eqb x y && eqb z w) ≡ false
-      neither x y z w h = go (cases_eq x y) (cases_eq z w)
-        where
-          go : (x ≡ y) ⊎ (x ≡ y → ⊥) → (z ≡ w) ⊎ (z ≡ w → ⊥) → (eqb x y && eqb z w) ≡ false
-          go (inl e) (inl f) = absurd (h e f)
-          go (inl e) (inr f) = and_right (eqb x y) (eqb z w) (ne_eqb z w f)
-          go (inr e) f = and_left (eqb x y) (eqb z w) (ne_eqb x y e)
-
-      plain : (x : Bool) → (x || false) ≡ x
-      plain true = refl
-      plain false = refl
+  apart_same i j p q = grind (arith, nat_tests)
 
   pub apart_pair : (separated v a b).apart a b ≡ true
-  apart_pair = go (v.apart a b) (eqb a a && eqb b b) (eqb a b && eqb b a) (and_from (eqb a a) (eqb b b) (eq-eqb a a refl) (eq-eqb b b refl))
-    where
-      go : (x y z : Bool) → y ≡ true → (x || (y || z)) ≡ true
-      go true y z e = refl
-      go false y z e = ap (λ t. t || z) e
+  apart_pair = grind (arith, nat_tests)
 
   pub open_same : (i j : ℕ) → (i ≡ a → j ≡ b → ⊥) → (i ≡ b → j ≡ a → ⊥) → is_open (separated v a b) i j ≡ is_open v i j
   open_same i j p q = ap (λ t. (v.live i && v.live j) && (not (eqb i j) && not t)) (apart_same i j p q)

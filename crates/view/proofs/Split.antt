@@ -1,9 +1,11 @@
 -- The values of all pairs of live ids, split at a join: before it, at the two that are joined; after it, at the new one.
-use Rattle.std.proofs.Common.{◌≡◌, ℕ, ◌<◌, Bool, true, false, not, ◌&&◌, ◌||◌, eqb, ◌⊎◌, List, ◌∷◌, map, length, filter, sym, refl, ap, ◌∙◌, subst, inl, inr, arith}
+use Rattle.std.proofs.Common.{◌≡◌, ℕ, ◌<◌, true, false, not, ◌&&◌, eqb, List, ◌∷◌, map, length, filter, sym, refl, ◌∙◌, subst, arith}
 use mathlib.Core.List.{Permᴰ}
+use Rattle.std.proofs.Math.Bool.{and_assoc}
 use Rattle.std.specs.List.{range_with_len, AllByRecursion}
 use Rattle.std.proofs.ByRecursion.{kept_by_passes}
-use Rattle.std.proofs.lemmas.Bool.{cases_eq, eq-eqb, ne_eqb, and_from, not_from_false, or_right}
+use Rattle.std.proofs.lemmas.Bool.Decides.{nat_tests}
+use Rattle.std.proofs.lemmas.Bool.{eq-eqb, ne_eqb, and_from, not_from_false, or_right}
 use Rattle.job.specs.Tests.{pairs}
 use Rattle.view.specs.View.{View, width, ids, next}
 use Rattle.view.specs.Steps.{is_other, others, joined}
@@ -18,11 +20,7 @@ length_perm (mathlib.Core.List.Permᴰ.trans p q) = length_perm p ∙ length_per
 
 module _ (v : View) (a b : ℕ) where
   but_but : (i : ℕ) → but (but v.live a) b i ≡ is_other v a b i
-  but_but i = go (v.live i) (not (eqb i a)) (not (eqb i b))
-    where
-      go : (x y z : Bool) → ((x && y) && z) ≡ (x && (y && z))
-      go true y z = refl
-      go false y z = refl
+  but_but i = and_assoc (v.live i) (not (eqb i a)) (not (eqb i b))
 
   -- the live ids are the two and the others
   pub before : v.live a ≡ true → v.live b ≡ true → (a ≡ b → ⊥) → a < width v → b < width v → Permᴰ (ids v) (a ∷ b ∷ others v a b)
@@ -34,19 +32,7 @@ module _ (v : View) (a b : ℕ) where
       mathlib.Core.List.Permᴰ.trans one (mathlib.Core.List.Permᴰ.cons refl three)
 
   but_new : is_other v a b (next v) ≡ false → (i : ℕ) → but (joined v a b).live (next v) i ≡ is_other v a b i
-  but_new n i = go (cases_eq i (next v))
-    where
-      drop : (x : Bool) → ((x || false) && true) ≡ x
-      drop true = refl
-      drop false = refl
-
-      none : (x : Bool) → ((x || true) && false) ≡ false
-      none true = refl
-      none false = refl
-
-      go : (i ≡ next v) ⊎ (i ≡ next v → ⊥) → ((is_other v a b i || eqb i (next v)) && not (eqb i (next v))) ≡ is_other v a b i
-      go (inl e) = ap (λ t. (is_other v a b i || t) && not t) (eq-eqb i (next v) e) ∙ none (is_other v a b i) ∙ sym (ap (is_other v a b) e ∙ n)
-      go (inr d) = ap (λ t. (is_other v a b i || t) && not t) (ne_eqb i (next v) d) ∙ drop (is_other v a b i)
+  but_new n i = grind (arith, nat_tests)
 
   -- after the join they are the new one and the others
   pub after : is_other v a b (next v) ≡ false → next v < width v → Permᴰ (ids (joined v a b)) (next v ∷ others v a b)

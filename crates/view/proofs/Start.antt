@@ -1,8 +1,9 @@
 -- A loaded board: its view is good, and its amounts are those of the job.
-use Rattle.std.proofs.Common.{◌≡◌, ℕ, zero, suc, ◌+◌, ◌-◌, ◌<◌, ◌≤◌, Bool, true, false, cond, ◌&&◌, eqb, ltb, ◌⊎◌, List, length, Some, None, filter, unwrap_or, sym, refl, ap, ◌∙◌, subst, inl, inr, add-one, arith}
+use Rattle.std.proofs.Common.{◌≡◌, ℕ, zero, suc, ◌+◌, ◌-◌, ◌<◌, ◌≤◌, true, false, cond, ◌&&◌, eqb, ltb, ◌⊎◌, List, length, Some, None, filter, unwrap_or, sym, refl, ap, ◌∙◌, subst, inl, inr, add-one, arith}
 use Rattle.std.specs.List.{range_with_len, AllByRecursion}
 use Rattle.std.proofs.ByRecursion.{All-append, All-map, All-weaker}
-use Rattle.std.proofs.lemmas.Bool.{cases_Bool, eq-eqb, eqb-true, and_parts, and_from, and_left, and_right, ltb-true, lt-ltb, cond-true}
+use Rattle.std.proofs.lemmas.Bool.Decides.{nat_tests}
+use Rattle.std.proofs.lemmas.Bool.{cases_Bool, eq-eqb, eqb-true, and_parts, and_from, ltb-true, lt-ltb, cond-true}
 use Rattle.amount.specs.Kind.{Kind}
 use Rattle.job.specs.Job.{Job, amount_at, marked, Sound}
 use Rattle.job.specs.Tests.{row, pairs}
@@ -23,22 +24,10 @@ few_below n s (suc m) = go (few_below n (s + 1) m) (cases_Bool (ltb s n))
 
 module _ {A : Type 0} (k : Kind A) (job : Job A) (sound : Sound k job) where
   both_marked : (i j : ℕ) → ((ltb i job.parts && ltb j job.parts) && marked job i j) ≡ ((ltb j job.parts && ltb i job.parts) && marked job j i)
-  both_marked i j = go (cases_Bool (ltb i job.parts)) (cases_Bool (ltb j job.parts))
-    where
-      none : (x y m : Bool) → x ≡ false → ((x && y) && m) ≡ false
-      none x y m e = ap (λ t. (t && y) && m) e
+  both_marked i j = grind (arith, nat_tests, sound.mirrored.marks_symmetric i j)
 
-      none' : (x y m : Bool) → y ≡ false → ((x && y) && m) ≡ false
-      none' x y m e = and_left (x && y) m (and_right x y e)
-
-      go : (ltb i job.parts ≡ true) ⊎ (ltb i job.parts ≡ false) → (ltb j job.parts ≡ true) ⊎ (ltb j job.parts ≡ false) → ((ltb i job.parts && ltb j job.parts) && marked job i j) ≡ ((ltb j job.parts && ltb i job.parts) && marked job j i)
-      go (inl p) (inl q) = cc (sound.mirrored.marks_symmetric i j (ltb-true i job.parts p) (ltb-true j job.parts q))
-      go (inl p) (inr q) = none' (ltb i job.parts) (ltb j job.parts) (marked job i j) q ∙ sym (none (ltb j job.parts) (ltb i job.parts) (marked job j i) q)
-      go (inr p) q = none (ltb i job.parts) (ltb j job.parts) (marked job i j) p ∙ sym (none' (ltb j job.parts) (ltb i job.parts) (marked job j i) p)
-
-  unmarked : (i : ℕ) → (ltb i job.parts ≡ true) ⊎ (ltb i job.parts ≡ false) → ((ltb i job.parts && ltb i job.parts) && marked job i i) ≡ false
-  unmarked i (inl y) = and_right (ltb i job.parts && ltb i job.parts) (marked job i i) (sound.mirrored.marks_diagonal i (ltb-true i job.parts y))
-  unmarked i (inr n) = and_left (ltb i job.parts && ltb i job.parts) (marked job i i) (and_left (ltb i job.parts) (ltb i job.parts) n)
+  unmarked : (i : ℕ) → ((ltb i job.parts && ltb i job.parts) && marked job i i) ≡ false
+  unmarked i = grind (arith, nat_tests, sound.mirrored.marks_diagonal i)
 
   pub good_start : Good (start job)
   good_start = record {
@@ -48,7 +37,7 @@ module _ {A : Type 0} (k : Kind A) (job : Job A) (sound : Sound k job) where
     live_below = λ i l. omega (arith, ltb-true i job.parts l, few_below job.parts 0 (width (start job)));
     apart_symmetric = both_marked;
     apart_live = λ i j e. (and_parts (ltb i job.parts) (ltb j job.parts) (and_parts (ltb i job.parts && ltb j job.parts) (marked job i j) e).0).0;
-    apart_other = λ i. unmarked i (cases_Bool (ltb i job.parts));
+    apart_other = unmarked;
     holds_live = λ i p e. (and_parts (ltb i job.parts) (eqb i p) e).0;
     holds_part = λ i p e. let h = and_parts (ltb i job.parts) (eqb i p) e in omega (arith, ltb-true i job.parts h.0, eqb-true i p h.1);
     some_part = λ i l. (i, and_from (ltb i job.parts) (eqb i i) l (eq-eqb i i refl));

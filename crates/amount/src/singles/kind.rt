@@ -44,7 +44,7 @@ impl Amount for Single {
     }
 
     fn is_below(self, other: Single) -> bool {
-        self.value < other.value
+        self < other
     }
 
     fn span(self) -> u64 {

@@ -1,6 +1,5 @@
-use Rattle.std.proofs.Common.{refl}
 use Rattle.cases.proofs.Table.{all_hold}
 use Rattle.cases.proofs.worked_cases.Goals as goal
 
-pub returns : goal.returns
-returns c = record { counted = refl; hold = all_hold }
+pub returns-clause-hold : goal.returns-clause-hold
+returns-clause-hold c = all_hold
