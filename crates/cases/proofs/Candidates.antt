@@ -28,9 +28,9 @@ of_candidates test p (suc m) h (x ∷ xs) e l =
 
 -- the test of one candidate: no respectful grouping, or not below
 abbrev pub is_no_less : {A : Type 0} → Kind A → Job A → A → List ℕ → Bool
-is_no_less k job x labels = not (is_grouping job.parts labels && is_respectful job.parts job.marks labels) || not (k.below (cost k job labels) x)
+is_no_less k job x labels = not (is_grouping job.parts labels && is_respectful job labels) || not (k.below (cost k job labels) x)
 
-pub least_by_trying : {A : Type 0} (k : Kind A) (job : Job A) (x : A) (labels : List ℕ) → Mirrored k job → length labels ≡ job.parts → is_grouping job.parts labels ≡ true → is_respectful job.parts job.marks labels ≡ true → cost k job labels ≡ x → all_candidates (is_no_less k job x) 0 job.parts ≡ true → Least k job x
+pub least_by_trying : {A : Type 0} (k : Kind A) (job : Job A) (x : A) (labels : List ℕ) → Mirrored k job → length labels ≡ job.parts → is_grouping job.parts labels ≡ true → is_respectful job labels ≡ true → cost k job labels ≡ x → all_candidates (is_no_less k job x) 0 job.parts ≡ true → Least k job x
 least_by_trying k job x labels even n g r c t = record {
   labels = labels;
   grouping = (grouping_tells job.parts labels n).0 g;
@@ -39,6 +39,6 @@ least_by_trying k job x labels even n g r c t = record {
   none_less = λ others grouping respects.
       let told = of_candidates (is_no_less k job x) 0 job.parts t others grouping.counted (λ i l. omega (arith, grouping.smallest i i l l refl)) in
       let is_one : is_grouping job.parts others ≡ true = (grouping_tells job.parts others grouping.counted).1 grouping in
-      let keeps : is_respectful job.parts job.marks others ≡ true = (respect_tells k job others even).1 respects in
+      let keeps : is_respectful job others ≡ true = (respect_tells k job others even).1 respects in
       grind arith;
 }

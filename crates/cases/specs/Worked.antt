@@ -6,7 +6,7 @@ use Rattle.amount.specs.Single.{single, single_kind}
 use Rattle.amount.specs.Ranked.{ranked, ranked_kind}
 use Rattle.amount.specs.declared.singles.Single.{Single}
 use Rattle.amount.specs.declared.ranks.Ranked.{Ranked}
-use Rattle.job.specs.Job.{Job, job_of}
+use Rattle.job.specs.Job.{Job}
 use Rattle.job.specs.Cost.{Least}
 use Rattle.job.specs.Answers.{priced, refused_with}
 use Rattle.job.specs.Refusals.{cost_number}
@@ -27,7 +27,7 @@ abbrev pub square_of : {X : Type 0} → X → ℕ → List (Entry X) → List X
 square_of none n es = flat_map (λ i. map (listed none es i) (range_with_len 0 n)) (range_with_len 0 n)
 
 abbrev pub job_with : {A : Type 0} → Kind A → ℕ → List (Entry A) → List (Entry Bool) → Job A
-job_with k n amounts marks = job_of n (square_of k.zero n amounts) (square_of false n marks)
+job_with k n amounts marks = record { parts = n; square = square_of k.zero n amounts; marks = square_of false n marks }
 
 abbrev pub at : {X : Type 0} → ℕ → ℕ → X → Entry X
 at i j x = record { one = i; other = j; value = x }

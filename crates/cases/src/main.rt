@@ -7,7 +7,7 @@ ghost use Rattle.cases.specs.Cheaper.{cheaper_of};
 ghost use Rattle.cases.specs.Worked.{square_of, at, worked_cases, Holds};
 
 use amount::{Amount, Ranked, Single};
-use job::{check, cost};
+use job::Job;
 use std::fmt::Display;
 
 #[cfg(test)]
@@ -49,28 +49,32 @@ fn cheaper<A: Amount>(best: Option<(usize, A)>, place: usize, price: A) -> Optio
     }
 }
 
-// The place of the cheapest grouping of three parts, with its cost.
-fn cheapest<A: Amount>(square: &[A], marks: &[bool]) -> Option<(usize, A)> {
-    let mut best = None;
-    for (place, labels) in GROUPINGS.iter().enumerate() {
-        if let Ok(price) = cost(PARTS, square, marks, labels) {
-            best = cheaper(best, place, price);
-        }
+// A job of three parts.
+fn of_three<'a, A>(square: &'a [A], marks: &'a [bool]) -> Job<'a, A> {
+    Job {
+        parts: PARTS,
+        square,
+        marks,
     }
-    best
 }
 
-// Prices one grouping of three parts.
+// The place of the cheapest grouping of three parts, with its cost.
+fn cheapest<A: Amount>(job: &Job<'_, A>) -> Option<(usize, A)> {
+    GROUPINGS
+        .iter()
+        .enumerate()
+        .filter_map(|(place, labels)| Some((place, job.cost(labels).ok()?)))
+        .fold(None, |best, (place, price)| cheaper(best, place, price))
+}
+
+// Prices one grouping.
 fn price_one<A: Amount + Display>(
     rt: &HostRuntime,
-    square: &[A],
-    marks: &[bool],
+    job: &Job<'_, A>,
     labels: &[usize],
 ) -> anyhow::Result<()> {
-    match cost(PARTS, square, marks, labels) {
-        Ok(price) => {
-            println!(rt; "  {labels:?} costs {price}")?;
-        }
+    match job.cost(labels) {
+        Ok(price) => println!(rt; "  {labels:?} costs {price}")?,
         Err(refusal) => {
             let number = refusal.number();
             println!(rt; "  {labels:?} is refused with {number}: {refusal}")?;
@@ -80,15 +84,11 @@ fn price_one<A: Amount + Display>(
 }
 
 // Prices every grouping of three parts, and says which is cheapest.
-fn price_all<A: Amount + Display>(
-    rt: &HostRuntime,
-    square: &[A],
-    marks: &[bool],
-) -> anyhow::Result<()> {
+fn price_all<A: Amount + Display>(rt: &HostRuntime, job: &Job<'_, A>) -> anyhow::Result<()> {
     for labels in &GROUPINGS {
-        price_one(rt, square, marks, labels)?;
+        price_one(rt, job, labels)?;
     }
-    let Some((place, price)) = cheapest(square, marks) else {
+    let Some((place, price)) = cheapest(job) else {
         return Ok(());
     };
     if let Some(labels) = GROUPINGS.get(place) {
@@ -98,14 +98,8 @@ fn price_all<A: Amount + Display>(
 }
 
 // Says what the check of a job answers.
-fn show_check(
-    rt: &HostRuntime,
-    what: &str,
-    parts: usize,
-    square: &[Single],
-    marks: &[bool],
-) -> anyhow::Result<()> {
-    match check(parts, square, marks) {
+fn show_check(rt: &HostRuntime, what: &str, job: &Job<'_, Single>) -> anyhow::Result<()> {
+    match job.check() {
         Ok(()) => println!(rt; "  {what}: passes")?,
         Err(refusal) => {
             let number = refusal.number();
@@ -120,44 +114,42 @@ fn show_refusals(rt: &HostRuntime) -> anyhow::Result<()> {
     let zero = Single::zero();
     let widest = Single::new(1_000_000)?;
     let wider = Single::new(1_000_001)?;
-    show_check(rt, "33 parts", 33, &[zero; 1089], &[false; 1089])?;
-    show_check(rt, "3 parts, 8 amounts", 3, &[zero; 8], &UNMARKED)?;
-    show_check(
-        rt,
-        "0-1 is not 1-0",
-        2,
-        &[zero, widest, zero, zero],
-        &[false; 4],
-    )?;
-    show_check(
-        rt,
-        "span 1,000,000",
-        2,
-        &[zero, widest, widest, zero],
-        &[false; 4],
-    )?;
-    show_check(
-        rt,
-        "span 1,000,001",
-        2,
-        &[zero, wider, wider, zero],
-        &[false; 4],
-    )
+    let many = Job {
+        parts: 33,
+        square: &[zero; 1089],
+        marks: &[false; 1089],
+    };
+    show_check(rt, "33 parts", &many)?;
+    show_check(rt, "3 parts, 8 amounts", &of_three(&[zero; 8], &UNMARKED))?;
+    let pairs = [
+        ("0-1 is not 1-0", [zero, widest, zero, zero]),
+        ("span 1,000,000", [zero, widest, widest, zero]),
+        ("span 1,000,001", [zero, wider, wider, zero]),
+    ];
+    for (what, square) in &pairs {
+        let job = Job {
+            parts: 2,
+            square,
+            marks: &[false; 4],
+        };
+        show_check(rt, what, &job)?;
+    }
+    Ok(())
 }
 
 fn main(rt: HostRuntime) -> anyhow::Result<()> {
     let square = square_of(Single::new(5)?, Single::new(-4)?, Single::new(3)?);
     println!(rt; "Three parts: 0-1 at 5, 0-2 at -4, 1-2 at 3.")?;
-    price_all(&rt, &square, &UNMARKED)?;
+    price_all(&rt, &of_three(&square, &UNMARKED))?;
     println!(rt; "The same, with the pair 0-1 marked.")?;
-    price_all(&rt, &square, &MARKED)?;
+    price_all(&rt, &of_three(&square, &MARKED))?;
     println!(rt; "Ranked amounts: 0-1 at 1/0, 0-2 at 0/-1000, 1-2 at 0/900.")?;
     let ranked = square_of(
         Ranked::new(1, 0)?,
         Ranked::new(0, -1000)?,
         Ranked::new(0, 900)?,
     );
-    price_all(&rt, &ranked, &UNMARKED)?;
+    price_all(&rt, &of_three(&ranked, &UNMARKED))?;
     println!(rt; "Jobs and what their check says.")?;
     show_refusals(&rt)?;
     let count = worked_cases();

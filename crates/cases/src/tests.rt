@@ -1,14 +1,16 @@
 // The refusals of the cost of a grouping, in their order: where several apply, the first is given.
 use amount::{Amount, Single};
-use job::cost;
+use job::Job;
 use std::test::Fail;
 
 // The number of the refusal, absent where the grouping is priced.
 fn refusal(parts: usize, square: &[Single], marks: &[bool], labels: &[usize]) -> Option<u8> {
-    match cost(parts, square, marks, labels) {
-        Ok(_) => None,
-        Err(refusal) => Some(refusal.number()),
-    }
+    let job = Job {
+        parts,
+        square,
+        marks,
+    };
+    job.cost(labels).err().map(|refusal| refusal.number())
 }
 
 #[test]
