@@ -68,9 +68,7 @@ fn price_one<A: Amount + Display>(
     labels: &[usize],
 ) -> anyhow::Result<()> {
     match cost(PARTS, square, marks, labels) {
-        Ok(price) => {
-            println!(rt; "  {labels:?} costs {price}")?;
-        }
+        Ok(price) => println!(rt; "  {labels:?} costs {price}")?,
         Err(refusal) => {
             let number = refusal.number();
             println!(rt; "  {labels:?} is refused with {number}: {refusal}")?;

@@ -40,9 +40,7 @@ fn tell_separation(
     answer: Result<Single, StepRefusal>,
 ) -> anyhow::Result<()> {
     match answer {
-        Ok(booked) => {
-            println!(rt; "  {what}: books {booked}")?;
-        }
+        Ok(booked) => println!(rt; "  {what}: books {booked}")?,
         Err(refusal) => {
             let number = refusal.number();
             println!(rt; "  {what}: refused with {number}: {refusal}")?;
