@@ -1,9 +1,10 @@
 -- Ranked amounts keep the laws: each is that of single amounts in both ranks, and the order goes by the first rank where it can.
-use Rattle.std.specs.Prelude.{◌≡◌, ◌+◌, ◌≤◌, true, false, refl}
-use Rattle.std.proofs.Common.{arith}
+use Rattle.std.specs.Prelude.{◌≡◌, ◌+◌, ◌≤◌, max, true, false, ℤ, ◌+ℤ◌, unsigned_abs, refl}
+use Rattle.std.proofs.Common.{◌∙◌, arith}
 use Rattle.std.proofs.lemmas.Int.{ints}
 use Rattle.amount.specs.Kind.{Laws, span_limit}
-use Rattle.amount.specs.Single.{single_kind}
+use Rattle.amount.specs.Clamp.{clamp}
+use Rattle.amount.specs.Clamped as whole
 use Rattle.amount.specs.SingleLaws.{same_single, single_laws}
 use Rattle.amount.specs.Ranked.{ranked_below, ranked_kind}
 use Rattle.amount.specs.declared.ranks.Ranked.{Ranked}
@@ -13,22 +14,17 @@ use Rattle.amount.specs.Trichotomy.{exactly_one}
 pub same_ranked : (x y : Ranked) → x.first ≡ y.first → x.second ≡ y.second → x ≡ y
 same_ranked x y p q = λ i. record { first = p i; second = q i }
 
-irreflexive : (x : Ranked) → ranked_below x x ≡ false
-irreflexive x = grind (arith, ints)
+irreflexive : (a b : ℤ) → ranked_below a b a b ≡ false
+irreflexive a b = grind (arith, ints)
 
-transitive : (x y z : Ranked) → ranked_below x y ≡ true → ranked_below y z ≡ true → ranked_below x z ≡ true
-transitive x y z p q = grind (arith, ints)
+transitive : (a b c d e f : ℤ) → ranked_below a b c d ≡ true → ranked_below c d e f ≡ true → ranked_below a b e f ≡ true
+transitive a b c d e f p q = grind (arith, ints)
 
-connected : (x y : Ranked) → ranked_below x y ≡ false → ranked_below y x ≡ false → x ≡ y
-connected x y p q = same_ranked x y (same_single x.first y.first (grind (arith, ints))) (same_single x.second y.second (grind (arith, ints)))
+connected : (a b c d : ℤ) → ranked_below a b c d ≡ false → ranked_below c d a b ≡ false → (a ≡ c) × (b ≡ d)
+connected a b c d p q = grind (arith, ints)
 
-shifts : (x y z : Ranked) → ranked_kind.span x + ranked_kind.span y + ranked_kind.span z ≤ span_limit → ranked_below x y ≡ true → ranked_below (ranked_kind.sum x z) (ranked_kind.sum y z) ≡ true
-shifts x y z h p =
-    let one = single_laws.ordered x.first y.first in
-    let first = single_laws.shifts x.first y.first z.first (omega arith) in
-    let second = single_laws.shifts x.second y.second z.second (omega arith) in
-    let itself = single_laws.ordered (single_kind.sum y.first z.first) (single_kind.sum y.first z.first) in
-    grind arith
+shifts : (a b c d e f : ℤ) → max (unsigned_abs a) (unsigned_abs b) + max (unsigned_abs c) (unsigned_abs d) + max (unsigned_abs e) (unsigned_abs f) ≤ span_limit → ranked_below (clamp (a +ℤ e)) (clamp (b +ℤ f)) (clamp (c +ℤ e)) (clamp (d +ℤ f)) ≡ ranked_below a b c d
+shifts a b c d e f h = cc (whole.shifts a c e (omega arith), whole.shifts c a e (omega arith), whole.shifts b d f (omega arith))
 
 pub ranked_laws : Laws ranked_kind
 ranked_laws = record {
@@ -40,7 +36,10 @@ ranked_laws = record {
   associates = λ x y z h. same_ranked _ _ (single_laws.associates x.first y.first z.first (omega arith)) (single_laws.associates x.second y.second z.second (omega arith));
   neutral = λ x. same_ranked _ _ (single_laws.neutral x.first) (single_laws.neutral x.second);
   cancels = λ x h. same_ranked _ _ (single_laws.cancels x.first (omega arith)) (single_laws.cancels x.second (omega arith));
-  ordered = exactly_one ranked_below irreflexive transitive connected;
-  transitive = transitive;
-  shifts = shifts;
+  ordered = exactly_one ranked_kind.below
+      (λ x. irreflexive x.first.value x.second.value)
+      (λ x y z. transitive x.first.value x.second.value y.first.value y.second.value z.first.value z.second.value)
+      (λ x y p q. let e = connected x.first.value x.second.value y.first.value y.second.value p q in same_ranked x y (same_single x.first y.first e.0) (same_single x.second y.second e.1));
+  transitive = λ x y z. transitive x.first.value x.second.value y.first.value y.second.value z.first.value z.second.value;
+  shifts = λ x y z h p. shifts x.first.value x.second.value y.first.value y.second.value z.first.value z.second.value h ∙ p;
 }

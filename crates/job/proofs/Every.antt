@@ -1,7 +1,8 @@
 -- Tests over all numbers below a limit, and over all pairs of them: what they tell.
-use Rattle.std.proofs.Common.{◌≡◌, ℕ, suc, ◌<◌, Bool, true, ◌&&◌, List, [], ◌∷◌, Decides, sym, refl, ap, ◌∙◌, add-one}
+use Rattle.std.proofs.Common.{◌≡◌, ℕ, zero, suc, ◌+◌, ◌<◌, Bool, true, false, ◌&&◌, ◌⊎◌, List, [], ◌∷◌, Decides, sym, refl, ap, ◌∙◌, inl, inr, add-one, arith}
 use Rattle.std.proofs.Math.Bool.{and_comm}
 use Rattle.std.specs.List.{range_with_len, flat_map, list_all}
+use Rattle.std.proofs.lemmas.Bool.{cases_eq, and_left, and_right, and_from}
 use Rattle.std.proofs.lemmas.Bool.Decides.{Decides-below_and, Decides-at}
 use Rattle.std.proofs.lemmas.List.Folds.{list_all-append, list_all-map}
 use Rattle.job.specs.Tests.{every, every_pair, row}
@@ -14,6 +15,18 @@ every_next : (p : ℕ → Bool) (n : ℕ) → every (suc n) p ≡ (p n && every 
 every_next p n =
     ap (λ m. every m p) (sym (add-one n)) ∙ ap (list_all p) (counting_more n) ∙ list_all-append p (range_with_len 0 n) (n ∷ [])
     ∙ ap (λ b. every n p && b) (and_true (p n)) ∙ and_comm (every n p) (p n)
+
+-- for a loop by hand: a turn more, and the early exit
+pub every_more : (p : ℕ → Bool) (i : ℕ) → true ≡ every i p → p i ≡ true → true ≡ every (i + 1) p
+every_more p i h e = sym (ap (λ m. every m p) (add-one i) ∙ every_next p i ∙ and_from (p i) (every i p) e (sym h))
+
+pub every_fails : (p : ℕ → Bool) (n i : ℕ) → i < n → p i ≡ false → false ≡ every n p
+every_fails p zero i l e = let no : ⊥ = omega arith in absurd no
+every_fails p (suc n) i l e = go (λ m. every_fails p n i m e) (cases_eq i n)
+  where
+    go : (i < n → false ≡ every n p) → (i ≡ n) ⊎ (i ≡ n → ⊥) → false ≡ every (suc n) p
+    go below (inl s) = sym (every_next p n ∙ and_left (p n) (every n p) (ap p (sym s) ∙ e))
+    go below (inr d) = sym (every_next p n ∙ and_right (p n) (every n p) (sym (below (omega arith))))
 
 pub every_tells : (p : ℕ → Bool) (P : ℕ → Type 0) → ((i : ℕ) → Decides (p i) (P i)) → (n : ℕ) → Decides (every n p) ((i : ℕ) → i < n → P i)
 every_tells p P each = Decides-below_and p P (λ n. every n p) each refl (every_next p)

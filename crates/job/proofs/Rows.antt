@@ -1,10 +1,11 @@
 -- The list of pairs, row by row.
-use Rattle.std.proofs.Common.{◌≡◌, ℕ, zero, suc, ◌+◌, ◌-◌, ◌<◌, [], ◌∷◌, ◌++◌, length, drop, get_or, sym, refl, ap, ◌∙◌, arith}
+use Rattle.std.proofs.Common.{◌≡◌, ℕ, zero, suc, ◌+◌, ◌-◌, ◌<◌, List, [], ◌∷◌, ◌++◌, length, drop, get_or, map, fold, sym, refl, ap, ◌∙◌, arith}
 use Rattle.std.specs.List.{range_with_len, flat_map}
 use Rattle.std.proofs.Math.ListN.{get_or-append}
 use Rattle.std.proofs.Math.Seq.{drop-append_seam}
-use Rattle.std.proofs.lemmas.List.{map-id, flat_map_more, length-append, drop_more}
+use Rattle.std.proofs.lemmas.List.{map_push, map-append, map-id, flat_map_more, length-append, drop_more}
 use Rattle.std.proofs.lemmas.List.FromFn.{map-range_with_len_more, length-map-range_with_len, get_or-map-range_with_len}
+use Rattle.std.proofs.lemmas.List.Sums.{fold_push, fold-append}
 use Rattle.job.specs.Tests.{row, pairs}
 use Rattle.job.specs.Rest.{rows_from}
 
@@ -13,6 +14,24 @@ counting_more m = sym (map-id (range_with_len 0 (m + 1))) ∙ map-range_with_len
 
 pub pairs_more : (j : ℕ) → pairs (j + 1) ≡ pairs j ++ row j
 pairs_more j = rw counting_more (sym (flat_map_more row [] (range_with_len 0 j) j))
+
+-- the pairs i, j for each i below m
+abbrev pub row_upto : ℕ → ℕ → List (ℕ × ℕ)
+row_upto j m = map (λ i. (i, j)) (range_with_len 0 m)
+
+-- for loops by hand: a fold over the pairs, one pair more and one row more
+module _ {X : Type 0} (f : X → X → X) (charge : ℕ × ℕ → X) (a : X) where
+  pub row_step : (j i : ℕ) → fold f a (map charge (row_upto j (i + 1))) ≡ f (fold f a (map charge (row_upto j i))) (charge (i, j))
+  row_step j i =
+      ap (λ v. fold f a (map charge v)) (map-range_with_len_more (λ (m : ℕ). (m, j)) 0 i i (omega arith))
+      ∙ ap (fold f a) (map_push charge (row_upto j i) (i, j))
+      ∙ fold_push f a (map charge (row_upto j i)) (charge (i, j))
+
+  pub pairs_step : (j : ℕ) → fold f a (map charge (pairs (j + 1))) ≡ fold f (fold f a (map charge (pairs j))) (map charge (row j))
+  pairs_step j =
+      ap (λ v. fold f a (map charge v)) (pairs_more j)
+      ∙ ap (fold f a) (map-append charge (pairs j) (row j))
+      ∙ fold-append f a (map charge (pairs j)) (map charge (row j))
 
 -- an iterator over pairs: where it begins, within a row, and from row to row
 pub rows_begin : (n : ℕ) → rows_from 1 n ≡ pairs n
