@@ -45,6 +45,7 @@ impl WidthRefusal {
     }
 }
 
+// By hand, as with each refusal: the `Display` that the kit's `thiserror` derives states no text.
 impl fmt::Display for WidthRefusal {
     ghost output = { λ refusal. Some (width_text refusal) };
 
@@ -137,7 +138,7 @@ pub trait Amount: Copy {
     ghost laws: { Laws kind };
 }
 
-// Whether two amounts are one.
+// Whether two amounts are one. (A kind need not have an `==`: the laws speak of its order alone.)
 pub fn is_same<A: Amount>(x: A, y: A) -> bool
     ensures value { result ≡ same A.Amount.kind x y }
     ensures means { IsTrue result ↔ (x ≡ y) }

@@ -1,4 +1,4 @@
-// What steps book, and the amounts that a join writes.
+// What steps book, and the amounts that a join writes. The cells and the two ids come one by one, as in the calls: a struct of them would put a field path in place of each name in every clause, and a join writes the cells.
 ghost use Rattle.std.specs.Prelude.{◌≡◌, true};
 ghost use Rattle.view.specs.Steps.{is_other, join_other, join_others, join_booked, joined_cells};
 ghost use Rattle.view.specs.View.{is_open, Roomy};
@@ -48,11 +48,13 @@ impl Board {
 
     // Writes the amounts of the id that a join makes: to each other id the sum of theirs.
     pub(crate) fn write_amounts<A: Amount>(&self, cells: &mut [A], a: usize, b: usize)
-        requires { (Roomy (view_of self.now.state) cells.old) × (is_open (view_of self.now.state) a b ≡ true) }
+        requires room { Roomy (view_of self.now.state) cells.old }
+        requires open { is_open (view_of self.now.state) a b ≡ true }
         ensures { cells.new ≡ joined_cells A.Amount.kind (view_of self.now.state) cells.old a b }
     {
         let width = self.width();
         let id = self.state.ids.len();
+        // a loop: it reads the cells that it writes
         for w in 0..width {
             if self.is_other(a, b, w) {
                 let sum = self.amount(cells, a, w).sum(self.amount(cells, b, w));

@@ -52,6 +52,7 @@ fn start_state<A: Amount>(job: &SizedJob<'_, A>) -> State
 {
     let parts = job.job.parts;
     let mut ids = ArrayVec::new();
+    // a loop: `collect` would answer a `Result`, though there is room
     for part in 0..parts {
         ids.push(part_id(&job.job, part));
     }
@@ -69,6 +70,7 @@ fn write_square<A: Amount>(job: &SizedJob<'_, A>, cells: &mut [A])
 {
     let parts = job.job.parts;
     let width = 2 * parts - 1;
+    // a loop: after `for_each` nothing is known of the cells
     for (place, amount) in job.job.square.iter().enumerate() {
         put(cells, width, place / parts, place % parts, *amount);
     }

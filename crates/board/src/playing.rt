@@ -56,6 +56,7 @@ fn play_on<A: Amount>(
     ensures count { standing board.new.state ≡ length (stood steps.now result.1) }
 {
     let mut booked = before;
+    // a loop: it stops at a refusal, with what was booked until then
     for (place, step) in steps.iter().enumerate() {
         match keep_step(board, cells, *step) {
             Ok(amount) => booked = booked.sum(amount),

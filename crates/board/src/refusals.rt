@@ -17,6 +17,7 @@ pub enum LoadRefusal {
     TooFewCells,
 }
 
+// By hand: a derived one does not say which refusal it makes.
 impl From<JobRefusal> for LoadRefusal {
     ghost from_gives = { λ refusal r. r ≡ Job refusal };
 
@@ -37,6 +38,7 @@ impl LoadRefusal {
     }
 }
 
+// By hand: a derived one states no text.
 impl fmt::Display for LoadRefusal {
     ghost output = { λ refusal. Some (load_text refusal) };
 
@@ -84,6 +86,7 @@ impl StepRefusal {
     }
 }
 
+// By hand: a derived one states no text.
 impl fmt::Display for StepRefusal {
     ghost output = { λ refusal. Some (step_text refusal) };
 
@@ -128,6 +131,7 @@ impl RemainingRefusal {
     }
 }
 
+// By hand: a derived one states no text.
 impl fmt::Display for RemainingRefusal {
     ghost output = { λ refusal. Some (remaining_text refusal) };
 

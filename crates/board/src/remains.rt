@@ -15,7 +15,7 @@ use amount::Amount;
 use job::{Bill, Pairs, is_grouping, share_group};
 
 impl Board {
-    // The smallest part of an id, and 0 if it holds none.
+    // The smallest part of an id, and 0 if it holds none, as the definition has it: a live id holds one.
     fn first_part(&self, id: usize) -> usize
         ensures { result ≡ first_part (view_of self.now.state) id }
     {

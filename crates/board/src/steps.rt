@@ -1,4 +1,4 @@
-// Joins and separations, each on trial.
+// Joins and separations, each on trial. They are two calls, since they answer different things and only a join writes cells.
 ghost use Rattle.std.specs.Prelude.{◌≡◌, Some};
 ghost use Rattle.job.specs.Answers.{refused_with, FirstBroken};
 ghost use Rattle.view.specs.Steps.{joined, joined_cells, separated};

@@ -18,7 +18,7 @@ pub use layers::{FromSize, Greater, Zero};
 pub trait Bound<A: Amount> {
     ghost meaning: { Self → View → List A → A };
 
-    // The bound of a board with its amounts. It alters nothing and never refuses.
+    // The bound of a board with its amounts, which are lent beside it. It alters nothing and never refuses.
     fn bound(&self, board: &Board, cells: &[A]) -> A
         ensures { result ≡ meaning self.now (view_of board.now.state) cells.now };
 

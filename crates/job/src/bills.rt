@@ -11,7 +11,7 @@ pub struct Bill<A> {
     pub joining: A,
 }
 
-// A bill on which nothing stands.
+// A bill on which nothing stands. (By hand: a kind of amount has a zero, and need not have a default.)
 impl<A: Amount> Default for Bill<A> {
     ghost is_default = { λ bill. (bill.separating ≡ A.Amount.kind.zero) × (bill.joining ≡ A.Amount.kind.zero) };
 

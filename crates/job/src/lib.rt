@@ -65,6 +65,7 @@ impl JobRefusal {
     }
 }
 
+// By hand: a derived one states no text.
 impl fmt::Display for JobRefusal {
     ghost output = { λ refusal. Some (job_text refusal) };
 
@@ -88,6 +89,7 @@ pub enum CostRefusal {
     Marked,
 }
 
+// By hand: a derived one does not say which refusal it makes.
 impl From<JobRefusal> for CostRefusal {
     ghost from_gives = { λ refusal r. r ≡ Job refusal };
 
@@ -121,6 +123,7 @@ impl CostRefusal {
     }
 }
 
+// By hand: a derived one states no text.
 impl fmt::Display for CostRefusal {
     ghost output = { λ refusal. Some (cost_text refusal) };
 

@@ -16,11 +16,6 @@ inside n m len size some h e room =
     let column : m % n < n = mod_below m n (omega arith) in
     (room, (row, column))
 
-pub put-requires : goal.put-requires
-put-requires g c =
-    let h = inside c.args.job.now.job.parts c.loop-place.place (length c.loop-place.cells) (length c.args.job.now.job.square.now) (omega arith) (omega arith) (omega arith) (omega arith) in
-    (h.0, (omega (arith, h.1.0, h.1.1), omega (arith, h.1.0, h.1.1)))
-
 pub loop-place-preserved : goal.loop-place-preserved
 loop-place-preserved g c =
     let k = g.A.Amount.kind in
