@@ -48,8 +48,7 @@ impl Board {
 
     // Writes the amounts of the id that a join makes: to each other id the sum of theirs.
     pub(crate) fn write_amounts<A: Amount>(&self, cells: &mut [A], a: usize, b: usize)
-        requires room { Roomy (view_of self.now.state) cells.old }
-        requires open { is_open (view_of self.now.state) a b ≡ true }
+        requires { (Roomy (view_of self.now.state) cells.old) × (is_open (view_of self.now.state) a b ≡ true) }
         ensures { cells.new ≡ joined_cells A.Amount.kind (view_of self.now.state) cells.old a b }
     {
         let width = self.width();

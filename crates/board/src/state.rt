@@ -71,8 +71,7 @@ impl State {
 
     // Sets the flag of a pair, which the larger id has.
     fn put_flag(&mut self, a: usize, b: usize, flag: bool)
-        requires a_made { a < made self.old }
-        requires b_made { b < made self.old }
+        requires { (a < made self.old) × (b < made self.old) }
         ensures { self.new ≡ record self.old { ids = record { items = with_flag self.old.ids.items a b flag } } }
     {
         self.ids[a.max(b)].apart[a.min(b)] = flag;

@@ -17,14 +17,14 @@ loop-w-preserved g c =
     let s = c.args.self.now.state in
     let past = c.args.self.now.past in
     let cells = c.args.cells.now in
-    let o = open_is (view_of s) c.args.a c.args.b c.requires.open in
+    let o = open_is (view_of s) c.args.a c.args.b c.requires.1 in
     elim c.if-is_other.branch [
       | then-is_other w ↦
-          written k (view_of s) cells c.args.a c.args.b (live_width s past) (next_unused s past) (next_fits s past _ _ c.requires.open) c.requires.room c.loop-w.w (sym w.if-is_other.ensures)
+          written k (view_of s) cells c.args.a c.args.b (live_width s past) (next_unused s past) (next_fits s past _ _ c.requires.1) c.requires.0 c.loop-w.w (sym w.if-is_other.ensures)
           o.live_a o.live_b c.len-id.result c.width-width.result c.loop-w.cells w.put.new.cells c.if-is_other.cells w.amount.result w.amount-then-is_other.result w.sum-sum.result
           (c.len-id.ensures.value ∙ made_is s past) c.width-width.ensures c.loop-w.invariant w.amount.ensures w.amount-then-is_other.ensures w.sum-sum.ensures w.put.ensures (w.cells-is ∙ w.put-then-is_other.ensures)
       | else-is_other w ↦
-          w.cells-is ∙ c.loop-w.invariant ∙ passes k (view_of s) cells c.args.a c.args.b (live_width s past) (next_unused s past) (next_fits s past _ _ c.requires.open) c.requires.room c.loop-w.w (sym w.if-is_other.ensures)
+          w.cells-is ∙ c.loop-w.invariant ∙ passes k (view_of s) cells c.args.a c.args.b (live_width s past) (next_unused s past) (next_fits s past _ _ c.requires.1) c.requires.0 c.loop-w.w (sym w.if-is_other.ensures)
     ]
 
 pub returns : goal.returns
@@ -35,4 +35,4 @@ returns g c =
     let cells = c.args.cells.now in
     let whole : c.loop-w.w ≡ width (view_of s) = omega (arith, c.loop-w.auto.w-end, c.loop-w-test.false, c.width-width.ensures) in
     c.loop-w.invariant ∙ ap (λ n. rewritten k (view_of s) cells (so_far k (view_of s) cells c.args.a c.args.b n n)) whole
-    ∙ ends k (view_of s) cells c.args.a c.args.b (live_width s past) (next_unused s past) (next_fits s past _ _ c.requires.open) c.requires.room
+    ∙ ends k (view_of s) cells c.args.a c.args.b (live_width s past) (next_unused s past) (next_fits s past _ _ c.requires.1) c.requires.0
