@@ -21,10 +21,10 @@ use job::{Job, SizedJob};
 use std::array;
 
 // Whether there are cells enough for every pair of ids.
-fn is_roomy<A: Amount>(job: &SizedJob<'_, A>, cells: &[A]) -> bool
-    ensures { result ≡ is_roomy (start (job_of job.now.job)) cells.now }
+fn is_roomy<A: Amount>(sized: &SizedJob<'_, A>, cells: &[A]) -> bool
+    ensures { result ≡ is_roomy (start (job_of sized.now.job)) cells.now }
 {
-    let width = 2 * job.job.parts - 1;
+    let width = 2 * sized.job.parts - 1;
     cells.len() >= width * width
 }
 
@@ -47,14 +47,14 @@ fn part_id<A: Amount>(job: &Job<'_, A>, part: usize) -> Id
 }
 
 // What a board with no step holds.
-fn start_state<A: Amount>(job: &SizedJob<'_, A>) -> State
-    ensures { result ≡ started (job_of job.now.job) }
+fn start_state<A: Amount>(sized: &SizedJob<'_, A>) -> State
+    ensures { result ≡ started (job_of sized.now.job) }
 {
-    let parts = job.job.parts;
+    let parts = sized.job.parts;
     let mut ids = ArrayVec::new();
     // a loop: `collect` would answer a `Result`, though there is room
     for part in 0..parts {
-        ids.push(part_id(&job.job, part));
+        ids.push(part_id(&sized.job, part));
     }
     State {
         parts,
@@ -64,14 +64,14 @@ fn start_state<A: Amount>(job: &SizedJob<'_, A>) -> State
 }
 
 // Writes the square into the cells of the parts, and no other cell.
-fn write_square<A: Amount>(job: &SizedJob<'_, A>, cells: &mut [A])
-    requires { Roomy (start (job_of job.now.job)) cells.old }
-    ensures { cells.new ≡ loaded_cells A.Amount.kind (job_of job.now.job) cells.old }
+fn write_square<A: Amount>(sized: &SizedJob<'_, A>, cells: &mut [A])
+    requires { Roomy (start (job_of sized.now.job)) cells.old }
+    ensures { cells.new ≡ loaded_cells A.Amount.kind (job_of sized.now.job) cells.old }
 {
-    let parts = job.job.parts;
+    let parts = sized.job.parts;
     let width = 2 * parts - 1;
     // a loop: after `for_each` nothing is known of the cells
-    for (place, amount) in job.job.square.iter().enumerate() {
+    for (place, amount) in sized.job.square.iter().enumerate() {
         put(cells, width, place / parts, place % parts, *amount);
     }
 }

@@ -105,10 +105,22 @@ fn board_refusals_in_order(rt: HostRuntime) -> Result<(), Fail> {
     let mut cells = [zero; 9];
     let loads = [
         (load_refusal(&job(33, &[], &[]), &mut []), Some(1)),
-        (load_refusal(&job(2, &[wide; 3], &marked), &mut short), Some(2)),
-        (load_refusal(&job(2, &lopsided, &marked), &mut short), Some(2)),
-        (load_refusal(&job(2, &lopsided, &marked), &mut cells), Some(3)),
-        (load_refusal(&job(2, &too_wide, &marked), &mut cells), Some(4)),
+        (
+            load_refusal(&job(2, &[wide; 3], &marked), &mut short),
+            Some(2),
+        ),
+        (
+            load_refusal(&job(2, &lopsided, &marked), &mut short),
+            Some(2),
+        ),
+        (
+            load_refusal(&job(2, &lopsided, &marked), &mut cells),
+            Some(3),
+        ),
+        (
+            load_refusal(&job(2, &too_wide, &marked), &mut cells),
+            Some(4),
+        ),
         (load_refusal(&job(2, &[zero; 4], &marked), &mut cells), None),
     ];
     for (given, expected) in loads {

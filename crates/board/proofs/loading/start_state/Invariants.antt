@@ -6,4 +6,4 @@ use Rattle.board.specs.Trail.{part_id}
 use Rattle.board.proofs.loading.start_state.Given as goal
 
 abbrev pub invariant-loop-part : goal.invariant-loop-part
-invariant-loop-part g l = l.ids.items ≡ map (part_id (job_of l.job.job)) (range_with_len 0 l.part)
+invariant-loop-part g l = l.ids.items ≡ map (part_id (job_of l.sized.job)) (range_with_len 0 l.part)

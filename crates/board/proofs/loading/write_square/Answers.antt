@@ -7,7 +7,7 @@ use Rattle.board.proofs.Written.{place, loaded_so_far, load_starts, load_written
 use Rattle.board.proofs.loading.write_square.Goals as goal
 
 pub loop-place-init : goal.loop-place-init
-loop-place-init g c = load_starts g.A.Amount.kind (job_of c.args.job.now.job) c.args.cells.now
+loop-place-init g c = load_starts g.A.Amount.kind (job_of c.args.sized.now.job) c.args.cells.now
 
 -- a place of the square, by its row and its column
 inside : (n m len size : ℕ) → 1 ≤ n → m < size → size ≡ n * n → (2 * n - 1) * (2 * n - 1) ≤ len → ((2 * n - 1) * (2 * n - 1) ≤ len) × ((m / n < n) × (m % n < n))
@@ -19,16 +19,16 @@ inside n m len size some h e room =
 pub loop-place-preserved : goal.loop-place-preserved
 loop-place-preserved g c =
     let k = g.A.Amount.kind in
-    let job = job_of c.args.job.now.job in
-    let h = inside c.args.job.now.job.parts c.loop-place.place (length c.args.cells.now) (length c.args.job.now.job.square.now) (omega arith) (omega arith) (omega arith) (omega arith) in
-    let read : _ ≡ get_or c.args.job.now.job.square.now c.loop-place.place k.zero = get_or_read c.args.job.now.job.square.now c.loop-place.place _ c.loop-place-test.true c.amount-item.is k.zero in
+    let job = job_of c.args.sized.now.job in
+    let h = inside c.args.sized.now.job.parts c.loop-place.place (length c.args.cells.now) (length c.args.sized.now.job.square.now) (omega arith) (omega arith) (omega arith) (omega arith) in
+    let read : _ ≡ get_or c.args.sized.now.job.square.now c.loop-place.place k.zero = get_or_read c.args.sized.now.job.square.now c.loop-place.place _ c.loop-place-test.true c.amount-item.is k.zero in
     c.put.ensures
-    ∙ ap₂ (λ l x. set l (c.loop-place.place / c.args.job.now.job.parts * (2 * c.args.job.now.job.parts - 1) + c.loop-place.place % c.args.job.now.job.parts) x) c.loop-place.invariant read
-    ∙ load_written k job c.args.cells.now c.loop-place.place (omega arith) (omega arith) (place (2 * c.args.job.now.job.parts - 1) _ _ (length c.args.cells.now) h.0 (omega (arith, h.1.0)) (omega (arith, h.1.1)))
+    ∙ ap₂ (λ l x. set l (c.loop-place.place / c.args.sized.now.job.parts * (2 * c.args.sized.now.job.parts - 1) + c.loop-place.place % c.args.sized.now.job.parts) x) c.loop-place.invariant read
+    ∙ load_written k job c.args.cells.now c.loop-place.place (omega arith) (omega arith) (place (2 * c.args.sized.now.job.parts - 1) _ _ (length c.args.cells.now) h.0 (omega (arith, h.1.0)) (omega (arith, h.1.1)))
 
 pub returns : goal.returns
 returns g c =
     let k = g.A.Amount.kind in
-    let job = job_of c.args.job.now.job in
-    let end : c.loop-place.place ≡ c.args.job.now.job.parts * c.args.job.now.job.parts = omega (arith, c.loop-place.auto.place-end, c.loop-place-test.false) in
+    let job = job_of c.args.sized.now.job in
+    let end : c.loop-place.place ≡ c.args.sized.now.job.parts * c.args.sized.now.job.parts = omega (arith, c.loop-place.auto.place-end, c.loop-place-test.false) in
     c.loop-place.invariant ∙ ap (λ m. rewritten k (start job) c.args.cells.now (loaded_so_far k job c.args.cells.now m)) end ∙ load_ends k job c.args.cells.now

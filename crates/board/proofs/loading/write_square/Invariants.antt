@@ -6,5 +6,5 @@ use Rattle.board.proofs.loading.write_square.Given as goal
 
 abbrev pub invariant-loop-place : goal.invariant-loop-place
 invariant-loop-place g l =
-    let job = job_of l.job.job in
+    let job = job_of l.sized.job in
     l.cells ≡ rewritten g.A.Amount.kind (start job) l.initial.cells (loaded_so_far g.A.Amount.kind job l.initial.cells l.place)
