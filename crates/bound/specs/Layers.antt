@@ -1,5 +1,5 @@
 -- Layers: bounds made of the bounds below them.
-use Rattle.std.specs.Prelude.{ℕ, cond, length, nat_le}
+use Rattle.std.specs.Prelude.{ℕ, if◌then◌else◌, length, nat_le}
 use Rattle.amount.specs.Kind.{Kind}
 use Rattle.view.specs.View.{ids}
 use Rattle.bound.specs.Lawful.{Meaning, Lawful}
@@ -10,14 +10,14 @@ zero_meaning k v cells = k.zero
 
 -- the greater of two amounts; of two that are the same, that one
 abbrev pub greater_of : {A : Type 0} → Kind A → A → A → A
-greater_of k x y = cond (k.below x y) y x
+greater_of k x y = if k.below x y then y else x
 
 abbrev pub greater_meaning : {A : Type 0} → Kind A → Meaning A → Meaning A → Meaning A
 greater_meaning k p q v cells = greater_of k (p v cells) (q v cells)
 
 -- asks below if at least m ids are live, else answers zero
 abbrev pub from_size_meaning : {A : Type 0} → Kind A → ℕ → Meaning A → Meaning A
-from_size_meaning k m p v cells = cond (nat_le m (length (ids v))) (p v cells) k.zero
+from_size_meaning k m p v cells = if nat_le m (length (ids v)) then p v cells else k.zero
 
 -- a tree of the two layers over any meanings
 pub data Stack (A : Type 0) : Type 0 where

@@ -1,5 +1,5 @@
 -- Loading a job, and the two steps on a board: join (in the literature a vertex merge) and separation (an edge set to forbidden).
-use Rattle.std.specs.Prelude.{ℕ, ◌/◌, ◌%◌, Bool, cond, not, ◌&&◌, ◌||◌, List, map, length, Some, None, filter, Option, ◌==◌, nat_lt, slice_index_or}
+use Rattle.std.specs.Prelude.{ℕ, ◌/◌, ◌%◌, if◌then◌else◌, Bool, not, ◌&&◌, ◌||◌, List, map, length, Some, None, filter, Option, ◌==◌, nat_lt, slice_index_or}
 use Rattle.std.specs.List.{range_with_len}
 use Rattle.std.specs.Option.{unwrap_or}
 use Rattle.amount.specs.Kind.{Kind}
@@ -23,7 +23,7 @@ start job = record {
 
 -- the cells of the parts hold the amounts of the job
 abbrev pub loaded_cells : {A : Type 0} → Kind A → Job A → List A → List A
-loaded_cells k job cells = rewritten k (start job) cells (λ i j. cond (nat_lt i job.parts && nat_lt j job.parts) (Some (amount_at k job i j)) None)
+loaded_cells k job cells = rewritten k (start job) cells (λ i j. if nat_lt i job.parts && nat_lt j job.parts then Some (amount_at k job i j) else None)
 
 -- what loading books: zero today
 abbrev pub load_booked : {A : Type 0} → Kind A → Job A → A
@@ -42,11 +42,11 @@ abbrev pub joined : View → ℕ → ℕ → View
 joined v a b = record {
   parts = v.parts;
   live = λ i. is_other v a b i || (i == next v);
-  holds = λ i p. cond (i == next v) (v.holds a p || v.holds b p) (is_other v a b i && v.holds i p);
+  holds = λ i p. if i == next v then v.holds a p || v.holds b p else is_other v a b i && v.holds i p;
   apart = λ i j.
-      cond (i == next v) (is_other v a b j && joined_apart v a b j)
-      (cond (j == next v) (is_other v a b i && joined_apart v a b i)
-      ((is_other v a b i && is_other v a b j) && v.apart i j));
+      if i == next v then is_other v a b j && joined_apart v a b j
+      else if j == next v then is_other v a b i && joined_apart v a b i
+      else (is_other v a b i && is_other v a b j) && v.apart i j;
 }
 
 -- the amount of the new id to another one: the sum of theirs, apart or not
@@ -56,9 +56,9 @@ joined_amount k v cells a b w = k.sum (amount_in k v cells a w) (amount_in k v c
 -- it is written in both cells of each pair
 abbrev pub joined_cells : {A : Type 0} → Kind A → View → List A → ℕ → ℕ → List A
 joined_cells k v cells a b = rewritten k v cells (λ i j.
-    cond (i == next v && is_other v a b j) (Some (joined_amount k v cells a b j))
-    (cond (j == next v && is_other v a b i) (Some (joined_amount k v cells a b i))
-    None))
+    if i == next v && is_other v a b j then Some (joined_amount k v cells a b j)
+    else if j == next v && is_other v a b i then Some (joined_amount k v cells a b i)
+    else None)
 
 -- what a join books for its own pair: the absolute amount if negative
 abbrev pub join_own : {A : Type 0} → Kind A → View → List A → ℕ → ℕ → A
@@ -67,9 +67,9 @@ join_own k v cells a b = negative_part k (amount_in k v cells a b)
 -- what it books for one other id: with both pairs open and of opposite signs the lesser absolute amount, with one open its amount if positive
 abbrev pub join_other : {A : Type 0} → Kind A → View → List A → ℕ → ℕ → ℕ → A
 join_other k v cells a b w =
-    cond (is_open v a w)
-    (cond (is_open v b w) (overlap k (amount_in k v cells a w) (amount_in k v cells b w)) (positive_part k (amount_in k v cells a w)))
-    (cond (is_open v b w) (positive_part k (amount_in k v cells b w)) k.zero)
+    if is_open v a w
+    then (if is_open v b w then overlap k (amount_in k v cells a w) (amount_in k v cells b w) else positive_part k (amount_in k v cells a w))
+    else (if is_open v b w then positive_part k (amount_in k v cells b w) else k.zero)
 
 -- the other live ids
 abbrev pub others : View → ℕ → ℕ → List ℕ

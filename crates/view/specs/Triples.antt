@@ -1,12 +1,12 @@
 -- Three live ids, by the signs of their pairs: what lower bounds, choosers and the end of a search look at.
-use Rattle.std.specs.Prelude.{◌≡◌, ℕ, Bool, true, cond, ◌&&◌, ◌||◌, List, ◌≢◌, nat_lt}
+use Rattle.std.specs.Prelude.{◌≡◌, ℕ, if◌then◌else◌, Bool, true, ◌&&◌, ◌||◌, List, ◌≢◌, nat_lt}
 use Rattle.amount.specs.Kind.{Kind}
 use Rattle.amount.specs.Signs.{positive, negative}
 use Rattle.view.specs.View.{View, is_open, amount_in}
 
 -- the amount of a pair, read in the row of the smaller id whichever comes first
 abbrev pub pair_amount : {A : Type 0} → Kind A → View → List A → ℕ → ℕ → A
-pair_amount k v cells i j = cond (nat_lt i j) (amount_in k v cells i j) (amount_in k v cells j i)
+pair_amount k v cells i j = if nat_lt i j then amount_in k v cells i j else amount_in k v cells j i
 
 abbrev pub is_open_positive : {A : Type 0} → Kind A → View → List A → ℕ → ℕ → Bool
 is_open_positive k v cells i j = is_open v i j && positive k (pair_amount k v cells i j)

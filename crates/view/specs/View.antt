@@ -1,6 +1,6 @@
 -- A board's view: all of a board that definitions and laws may speak of.
 -- A board stands between a job and a grouping of its parts: some parts are joined already, some pairs are settled to be apart.
-use Rattle.std.specs.Prelude.{ℕ, ◌+◌, ◌-◌, ◌*◌, ◌≤◌, Bool, cond, not, ◌&&◌, List, length, filter, ◌==◌, slice_index_or}
+use Rattle.std.specs.Prelude.{ℕ, ◌+◌, ◌-◌, ◌*◌, ◌≤◌, if◌then◌else◌, Bool, not, ◌&&◌, List, length, filter, ◌==◌, slice_index_or}
 use Rattle.std.specs.List.{range_with_len}
 use Rattle.amount.specs.Kind.{Kind}
 
@@ -33,7 +33,7 @@ amount_in k v cells i j = slice_index_or cells (i * width v + j) k.zero
 
 -- the amount of a pair of live ids, and zero for any other pair
 abbrev pub live_amount : {A : Type 0} → Kind A → View → List A → ℕ → ℕ → A
-live_amount k v cells i j = cond (v.live i && v.live j) (amount_in k v cells i j) k.zero
+live_amount k v cells i j = if v.live i && v.live j then amount_in k v cells i j else k.zero
 
 -- cells enough for every pair of ids
 abbrev pub Roomy : {A : Type 0} → View → List A → Type 0
