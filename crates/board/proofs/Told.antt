@@ -1,4 +1,5 @@
 -- What the tests of loading and of steps tell, and so what each answer tells.
+use Rattle.std.specs.Result.{IfOk}
 use Rattle.std.proofs.Common.{◌≡◌, ℕ, ◌*◌, Bool, true, false, not, ◌&&◌, eqb, List, length, None, Ok, Err, Decides, Result, sym, refl, ap, ◌∙◌, subst, subst₂, inl, inr, arith}
 use mathlib.Core.Bool.{Bool-set}
 use mathlib.Core.Logic.{∥∥₁_elim}
@@ -20,7 +21,7 @@ use Rattle.view.specs.Reached.{Reached, by_join, by_separation}
 use Rattle.view.specs.Steps.{start, join_booked, joined, joined_cells, separated, separation_booked}
 use Rattle.view.specs.View.{View, width, next, is_open, Roomy}
 use Rattle.job.specs.Answers.{refusal_of}
-use Rattle.board.specs.Answers.{is_roomy, load_checked, load_rules, are_two, step_checked, step_rules, join_answer, separation_answer, remaining_answer, remaining_rules, if_done, WhenDone, Leaves, Carries}
+use Rattle.board.specs.Answers.{is_roomy, load_checked, load_rules, are_two, step_checked, step_rules, join_answer, separation_answer, remaining_answer, remaining_rules, if_done, Leaves, Carries}
 use Rattle.board.specs.Refusals.{load_number, step_number, remaining_number}
 use Rattle.board.specs.State.{standing, view_of}
 use Rattle.board.specs.Trail.{Past}
@@ -83,13 +84,13 @@ module _ {A : Type 0} (v : View) (cells : List A) (a b : ℕ) where
 
 -- Steps lead from reached boards to reached boards.
 module _ {A : Type 0} (k : Kind A) (v : View) (cells : List A) (a b : ℕ) where
-  pub join_carries : (r : Result (ℕ × A) StepRefusal) (before after : State) (cells' : List A) → r ≡ join_answer k v cells a b → Leaves r before (joined v a b) after → cells' ≡ if_done r (joined_cells k v cells a b) cells → WhenDone r (λ x. Carries k v cells (view_of after) cells' x.1)
+  pub join_carries : (r : Result (ℕ × A) StepRefusal) (before after : State) (cells' : List A) → r ≡ join_answer k v cells a b → Leaves r before (joined v a b) after → cells' ≡ if_done r (joined_cells k v cells a b) cells → IfOk r (λ x. Carries k v cells (view_of after) cells' x.1)
   join_carries (Ok x) before after cells' e l f =
       let t = taken v cells a b (next v, join_booked k v cells a b) x e in
       λ job booked reached. subst₂ (λ u c. Reached k job u c (k.sum booked x.1)) (sym l.view) (sym f) (subst (λ m. Reached k job (joined v a b) (joined_cells k v cells a b) (k.sum booked m)) (sym (ap (λ y. y.1) t.is)) (by_join v cells booked a b reached t.room t.free))
   join_carries (Err refusal) before after cells' e l f = tt
 
-  pub separation_carries : (r : Result A StepRefusal) (before after : State) → r ≡ separation_answer k v cells a b → Leaves r before (separated v a b) after → WhenDone r (λ x. Carries k v cells (view_of after) cells x)
+  pub separation_carries : (r : Result A StepRefusal) (before after : State) → r ≡ separation_answer k v cells a b → Leaves r before (separated v a b) after → IfOk r (λ x. Carries k v cells (view_of after) cells x)
   separation_carries (Ok x) before after e l =
       let t = taken v cells a b (separation_booked k v cells a b) x e in
       λ job booked reached. subst (λ u. Reached k job u cells (k.sum booked x)) (sym l.view) (subst (λ m. Reached k job (separated v a b) cells (k.sum booked m)) (sym t.is) (by_separation v cells booked a b reached t.free))

@@ -25,16 +25,6 @@ abbrev pub if_done : {T E X : Type 0} → Result T E → X → X → X
 if_done (Ok _) done refused = done
 if_done (Err _) done refused = refused
 
--- what holds of the answer of a call that did not refuse
-abbrev pub WhenDone : {T E : Type 0} → Result T E → (T → Type 0) → Type 0
-WhenDone (Ok answer) holds = holds answer
-WhenDone (Err _) holds = Unit {0}
-
--- what holds if a call refused
-abbrev pub WhenRefused : {T E : Type 0} → Result T E → Type 0 → Type 0
-WhenRefused (Ok _) holds = Unit {0}
-WhenRefused (Err _) holds = holds
-
 -- cells enough for every pair of ids, as a test
 abbrev pub is_roomy : {A : Type 0} → View → List A → Bool
 is_roomy v cells = nat_le (width v * width v) (length cells)

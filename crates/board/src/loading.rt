@@ -5,7 +5,7 @@ ghost use Rattle.job.specs.Job.{marked};
 ghost use Rattle.job.specs.Lent.{job_of};
 ghost use Rattle.view.specs.Reached.{Reached};
 ghost use Rattle.view.specs.Steps.{start, loaded_cells, load_booked};
-ghost use Rattle.board.specs.Answers.{if_done, WhenDone, is_roomy, load_checked, load_rules};
+ghost use Rattle.board.specs.Answers.{if_done, is_roomy, load_checked, load_rules};
 ghost use Rattle.board.specs.Refusals.{load_number};
 ghost use Rattle.board.specs.State.{standing, view_of};
 ghost use Rattle.board.specs.Trail.{part_id, started};
@@ -104,9 +104,9 @@ impl Board {
     pub fn load<A: Amount>(job: &Job<'_, A>, cells: &mut [A]) -> Result<Board, LoadRefusal>
         ensures answer { refusal_of result ≡ load_checked A.Amount.kind (job_of job.now) cells.old }
         ensures tells { FirstBroken (load_rules A.Amount.kind (job_of job.now) cells.old) (refused_with load_number result) }
-        ensures board { WhenDone result (λ b. (view_of b.state ≡ start (job_of job.now)) × (standing b.state ≡ 0)) }
+        ensures board { IfOk result (λ b. (view_of b.state ≡ start (job_of job.now)) × (standing b.state ≡ 0)) }
         ensures cells { cells.new ≡ if_done result (loaded_cells A.Amount.kind (job_of job.now) cells.old) cells.old }
-        ensures reached { WhenDone result (λ b. Reached A.Amount.kind (job_of job.now) (view_of b.state) cells.new (load_booked A.Amount.kind (job_of job.now))) }
+        ensures reached { IfOk result (λ b. Reached A.Amount.kind (job_of job.now) (view_of b.state) cells.new (load_booked A.Amount.kind (job_of job.now))) }
     {
         let sized = checked(job, cells)?;
         write_square(&sized, cells);

@@ -1,11 +1,11 @@
 // Lists of steps, each taken and kept.
-ghost use Rattle.std.specs.Prelude.{◌≡◌, length};
+ghost use Rattle.std.specs.Prelude.{◌≡◌, length, IfOk, OnErr};
 ghost use Rattle.job.specs.Answers.{refused_with, refusal_of, FirstBroken};
 ghost use Rattle.job.specs.Lent.{job_of};
 ghost use Rattle.view.specs.Law.{Kept};
 ghost use Rattle.view.specs.Play.{loaded};
 ghost use Rattle.view.specs.Reached.{Reached};
-ghost use Rattle.board.specs.Answers.{WhenDone, WhenRefused, load_checked, load_rules};
+ghost use Rattle.board.specs.Answers.{load_checked, load_rules};
 ghost use Rattle.board.specs.Played.{position, Stepped, stood, Stands, Priced};
 ghost use Rattle.board.specs.Refusals.{load_number};
 ghost use Rattle.board.specs.State.{standing, view_of};
@@ -76,12 +76,12 @@ pub fn play<A: Amount>(
 ) -> Result<Played<A>, LoadRefusal>
     ensures answer { refusal_of result ≡ load_checked A.Amount.kind (job_of job.now) cells.old }
     ensures tells { FirstBroken (load_rules A.Amount.kind (job_of job.now) cells.old) (refused_with load_number result) }
-    ensures cells { WhenRefused result (cells.new ≡ cells.old) }
-    ensures stands { WhenDone result (λ p. Stands A.Amount.kind (loaded A.Amount.kind (job_of job.now) cells.old) steps.now (position p.board.state cells.new p.booked) p.refused) }
-    ensures count { WhenDone result (λ p. standing p.board.state ≡ length (stood steps.now p.refused)) }
-    ensures reached { WhenDone result (λ p. Reached A.Amount.kind (job_of job.now) (view_of p.board.state) cells.new p.booked) }
-    ensures law { WhenDone result (λ p. Priced A.Amount.kind (job_of job.now) (view_of p.board.state) cells.new p.booked) }
-    ensures keeps { WhenDone result (λ p. Kept A.Amount.kind (job_of job.now) (view_of p.board.state) cells.new p.booked) }
+    ensures cells { OnErr result (cells.new ≡ cells.old) }
+    ensures stands { IfOk result (λ p. Stands A.Amount.kind (loaded A.Amount.kind (job_of job.now) cells.old) steps.now (position p.board.state cells.new p.booked) p.refused) }
+    ensures count { IfOk result (λ p. standing p.board.state ≡ length (stood steps.now p.refused)) }
+    ensures reached { IfOk result (λ p. Reached A.Amount.kind (job_of job.now) (view_of p.board.state) cells.new p.booked) }
+    ensures law { IfOk result (λ p. Priced A.Amount.kind (job_of job.now) (view_of p.board.state) cells.new p.booked) }
+    ensures keeps { IfOk result (λ p. Kept A.Amount.kind (job_of job.now) (view_of p.board.state) cells.new p.booked) }
 {
     let mut board = Board::load(job, cells)?;
     let (booked, refused) = play_on(&mut board, cells, A::zero(), steps);

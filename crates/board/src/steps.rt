@@ -1,8 +1,8 @@
 // Joins and separations, each on trial. They are two calls, since they answer different things and only a join writes cells.
-ghost use Rattle.std.specs.Prelude.{◌≡◌, Some};
+ghost use Rattle.std.specs.Prelude.{◌≡◌, Some, IfOk};
 ghost use Rattle.job.specs.Answers.{refused_with, FirstBroken};
 ghost use Rattle.view.specs.Steps.{joined, joined_cells, separated};
-ghost use Rattle.board.specs.Answers.{step_checked, step_rules, join_answer, separation_answer, if_done, WhenDone, StepsTo, Leaves, Carries};
+ghost use Rattle.board.specs.Answers.{step_checked, step_rules, join_answer, separation_answer, if_done, StepsTo, Leaves, Carries};
 ghost use Rattle.board.specs.Refusals.{step_number};
 ghost use Rattle.board.specs.State.{standing, view_of};
 ghost use Rattle.board.specs.Trail.{Legal, Stays, view_after};
@@ -86,7 +86,7 @@ impl Board {
         ensures board { Leaves result.answer self.old.state (joined (view_of self.old.state) a b) result.board.now.state }
         ensures cells { cells.new ≡ if_done result.answer (joined_cells A.Amount.kind (view_of self.old.state) cells.old a b) cells.old }
         ensures stays { Stays self.old.state result.board.now.state }
-        ensures reached { WhenDone result.answer (λ x. Carries A.Amount.kind (view_of self.old.state) cells.old (view_of result.board.now.state) cells.new x.1) }
+        ensures reached { IfOk result.answer (λ x. Carries A.Amount.kind (view_of self.old.state) cells.old (view_of result.board.now.state) cells.new x.1) }
     {
         let mark = self.state.trail.len();
         let answer = self.try_join(cells, a, b);
@@ -105,7 +105,7 @@ impl Board {
         ensures tells { FirstBroken (step_rules (view_of self.old.state) cells.now a b) (refused_with step_number result.answer) }
         ensures board { Leaves result.answer self.old.state (separated (view_of self.old.state) a b) result.board.now.state }
         ensures stays { Stays self.old.state result.board.now.state }
-        ensures reached { WhenDone result.answer (λ x. Carries A.Amount.kind (view_of self.old.state) cells.now (view_of result.board.now.state) cells.now x) }
+        ensures reached { IfOk result.answer (λ x. Carries A.Amount.kind (view_of self.old.state) cells.now (view_of result.board.now.state) cells.now x) }
     {
         let mark = self.state.trail.len();
         let answer = self.try_separation(cells, a, b);
