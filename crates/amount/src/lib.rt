@@ -23,7 +23,7 @@ pub const SPAN_LIMIT: i64 = 1 << 50;
 #[derive(Clone, Copy, PartialEq, Eq, Debug)]
 pub enum WidthRefusal {
     // a number is above the limit, or below its opposite
-    TooWide,
+    TooWide = 4,
 }
 
 impl WidthRefusal {
@@ -31,17 +31,7 @@ impl WidthRefusal {
     pub fn number(self) -> u8
         ensures { result ≡ width_number self }
     {
-        match self {
-            WidthRefusal::TooWide => 4,
-        }
-    }
-
-    fn text(self) -> &'static str
-        ensures { result.now ≡ width_text self }
-    {
-        match self {
-            WidthRefusal::TooWide => "an amount is too wide",
-        }
+        self as u8
     }
 }
 
@@ -50,7 +40,9 @@ impl fmt::Display for WidthRefusal {
     ghost output = { λ refusal. Some (width_text refusal) };
 
     fn fmt<W: fmt::Write>(&self, f: &mut fmt::Formatter<W>) -> fmt::Result {
-        f.write_str(self.text())
+        match self {
+            WidthRefusal::TooWide => f.write_str("an amount is too wide"),
+        }
     }
 }
 

@@ -42,7 +42,7 @@ impl Ranked {
     }
 }
 
-// Both ranks in decimal, first/second.
+// Both ranks in decimal, first/second. (By hand: a derived one would state no bytes.)
 impl fmt::Display for Ranked {
     ghost output = { λ ranked. Some (signed_decimal ranked.first.value ++ codes "/" ++ signed_decimal ranked.second.value) };
 

@@ -35,7 +35,7 @@ impl Single {
     }
 }
 
-// The number, in decimal.
+// The number, in decimal. (By hand: a derived one would state no bytes.)
 impl fmt::Display for Single {
     ghost output = { λ single. Some (signed_decimal single.value) };
 

@@ -1,34 +1,29 @@
 -- What the tests of loading and of steps tell, and so what each answer tells.
 use Rattle.std.specs.Result.{IfOk}
-use Rattle.std.proofs.Common.{◌≡◌, ℕ, ◌*◌, Bool, true, false, not, ◌&&◌, eqb, List, length, None, Ok, Err, Decides, Result, sym, refl, ap, ◌∙◌, subst, subst₂, inl, inr, arith}
+use Rattle.std.proofs.Common.{◌≡◌, ℕ, ◌*◌, Bool, true, false, not, ◌&&◌, eqb, List, length, None, Ok, Err, Decides, Result, sym, refl, ap, subst, subst₂, inl, inr, arith}
 use mathlib.Core.Bool.{Bool-set}
 use mathlib.Core.Logic.{∥∥₁_elim}
 use mathlib.Core.HLevel.{⊥_prop, ×_prop, Π_prop}
 use base.Stored.{Coded-set, coded_ℕ}
-use Rattle.std.proofs.lemmas.Bool.{false≢true, and_from, ne_eqb}
+use Rattle.std.proofs.lemmas.Bool.{and_from, ne_eqb}
 use Rattle.std.proofs.lemmas.Bool.Decides.{Decides-and, Decides-not, Decides-eqb, Decides-like, not_from_Decides}
 use Rattle.amount.specs.Kind.{Kind, Laws}
-use Rattle.job.specs.Answers.{sizes_checked, checked, refused_with, FirstBroken}
-use Rattle.job.specs.Job.{Job, Within, Sized, Mirrored, Narrow, Sound, is_within, is_sized, is_mirrored, is_narrow}
-use Rattle.job.specs.declared.JobRefusal.{JobRefusal}
-use Rattle.job.specs.declared.JobRefusal.TheVariants.{PartCount, WrongSize, Lopsided, TooWide}
+use Rattle.job.specs.Answers.{refused_with, FirstBroken}
+use Rattle.job.specs.Job.{Job, Sound}
 use Rattle.job.specs.Tests.{refuse_unless, refuse_or}
-use Rattle.job.proofs.Told.{leb_tells, not_tells, within_tells, sized_tells, mirrored_tells, narrow_tells, grouping_tells}
+use Rattle.job.proofs.Told.{leb_tells, not_tells, grouping_tells}
 use Rattle.job.specs.Grouping.{Grouping, is_grouping}
 use Rattle.view.specs.Remaining.{RespectsBoard, remaining, is_respected}
 use Rattle.view.proofs.Respect.{respected_tells}
 use Rattle.view.specs.Reached.{Reached, by_join, by_separation}
 use Rattle.view.specs.Steps.{start, join_booked, joined, joined_cells, separated, separation_booked}
 use Rattle.view.specs.View.{View, width, next, is_open, Roomy}
-use Rattle.job.specs.Answers.{refusal_of}
-use Rattle.board.specs.Answers.{is_roomy, load_checked, load_rules, are_two, step_checked, step_rules, join_answer, separation_answer, remaining_answer, remaining_rules, if_done, Leaves, Carries}
-use Rattle.board.specs.Refusals.{load_number, step_number, remaining_number}
+use Rattle.board.specs.Answers.{is_roomy, load_rules, are_two, step_checked, step_rules, join_answer, separation_answer, remaining_answer, remaining_rules, if_done, Leaves, Carries}
+use Rattle.board.specs.Refusals.{step_number, remaining_number}
 use Rattle.board.specs.State.{standing, view_of}
 use Rattle.board.specs.Trail.{Past}
 use Rattle.board.specs.declared.refusals.RemainingRefusal.{RemainingRefusal}
 use Rattle.board.specs.declared.refusals.RemainingRefusal.TheVariants as remains
-use Rattle.board.specs.declared.refusals.LoadRefusal.{LoadRefusal}
-use Rattle.board.specs.declared.refusals.LoadRefusal.TheVariants as loading
 use Rattle.board.specs.declared.refusals.StepRefusal.{StepRefusal}
 use Rattle.board.specs.declared.refusals.StepRefusal.TheVariants as stepping
 use Rattle.board.specs.declared.state.State.{State}
@@ -97,42 +92,7 @@ module _ {A : Type 0} (k : Kind A) (v : View) (cells : List A) (a b : ℕ) where
   separation_carries (Err refusal) before after e l = tt
 
 -- Loading.
-pub refusal_same : (r : Result (Unit {0}) LoadRefusal) → refusal_of r ≡ r
-refusal_same (Ok _) = refl
-refusal_same (Err refusal) = refl
-
-number_of : {T : Type 0} (r : Result T LoadRefusal) → refused_with load_number (refusal_of r) ≡ refused_with load_number r
-number_of (Ok _) = refl
-number_of (Err refusal) = refl
-
 module _ {A : Type 0} (k : Kind A) (laws : Laws k) (job : Job A) (cells : List A) where
-  load_tells : FirstBroken (load_rules k job cells) (refused_with load_number (load_checked k job cells))
-  load_tells = go (is_within job) (is_sized job) (is_roomy (start job) cells) (is_mirrored k job) (is_narrow k job.square) (within_tells k laws job) (sized_tells k laws job) (roomy_tells (start job) cells) (mirrored_tells k laws job) (narrow_tells k laws job)
-    where
-      go : (a b c d e : Bool) → Decides a (Within job) → Decides b (Sized job) → Decides c (Roomy (start job) cells) → Decides d (Mirrored k job) → Decides e (Narrow k job.square) → FirstBroken (load_rules k job cells) (refused_with {T = Unit {0}} load_number (refuse_unless a (loading.Job PartCount) (refuse_unless b (loading.Job WrongSize) (refuse_unless c loading.TooFewCells (refuse_unless d (loading.Job Lopsided) (refuse_unless e (loading.Job TooWide) (Ok tt)))))))
-      go false b c d e p q r s t = inl (not_from_Decides false p refl, refl)
-      go true false c d e p q r s t = inr (p.0 refl, inl (not_from_Decides false q refl, refl))
-      go true true false d e p q r s t = inr (p.0 refl, inr (q.0 refl, inl (not_from_Decides false r refl, refl)))
-      go true true true false e p q r s t = inr (p.0 refl, inr (q.0 refl, inr (r.0 refl, inl (not_from_Decides false s refl, refl))))
-      go true true true true false p q r s t = inr (p.0 refl, inr (q.0 refl, inr (r.0 refl, inr (s.0 refl, inl (not_from_Decides false t refl, refl)))))
-      go true true true true true p q r s t = (p.0 refl, (q.0 refl, (r.0 refl, (s.0 refl, (t.0 refl, tt)))))
-
-  -- an answer of any kind that refuses as the check does
-  pub load_told : {T : Type 0} (r : Result T LoadRefusal) → refusal_of r ≡ load_checked k job cells → FirstBroken (load_rules k job cells) (refused_with load_number r)
-  load_told r e = subst (FirstBroken (load_rules k job cells)) (ap (refused_with load_number) (sym e) ∙ number_of r) load_tells
-
-  -- with cells enough, what is wrong inside the square is refused as the job's check does
-  pub load_late : (e : JobRefusal) (r : Result (Unit {0}) LoadRefusal) → Ok tt ≡ sizes_checked job → is_roomy (start job) cells ≡ true → Err e ≡ checked k job → r ≡ Err (loading.Job e) → r ≡ load_checked k job cells
-  load_late e r = go (is_within job) (is_sized job) (is_roomy (start job) cells) (is_mirrored k job) (is_narrow k job.square)
-    where
-      go : (a b c d f : Bool) → Ok tt ≡ refuse_unless a PartCount (refuse_unless b WrongSize (Ok (tt {0}))) → c ≡ true → Err e ≡ refuse_unless a PartCount (refuse_unless b WrongSize (refuse_unless d Lopsided (refuse_unless f TooWide (Ok (tt {0}))))) → r ≡ Err (loading.Job e) → r ≡ refuse_unless a (loading.Job PartCount) (refuse_unless b (loading.Job WrongSize) (refuse_unless c loading.TooFewCells (refuse_unless d (loading.Job Lopsided) (refuse_unless f (loading.Job TooWide) (Ok tt)))))
-      go false b c d f s m h i = absurd (not_refused tt PartCount s)
-      go true false c d f s m h i = absurd (not_refused tt WrongSize s)
-      go true true false d f s m h i = absurd (false≢true m)
-      go true true true false f s m h i = cc
-      go true true true true false s m h i = cc
-      go true true true true true s m h i = absurd (not_refused tt e (sym h))
-
   -- all rules kept: a sound job, and cells enough
   pub loads : FirstBroken (load_rules k job cells) None → Sound k job × Roomy (start job) cells
   loads h = (record { within = h.0; sized = h.1.0; mirrored = h.1.1.1.0; narrow = h.1.1.1.1.0 }, h.1.1.0)

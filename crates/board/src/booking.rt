@@ -5,8 +5,8 @@ ghost use Rattle.view.specs.View.{is_open, Roomy};
 ghost use Rattle.board.specs.State.{view_of};
 
 use crate::board::Board;
-use crate::cells::put;
 use amount::{Amount, overlap};
+use job::put;
 
 impl Board {
     // Whether an id is live, and neither of the two that are joined.
@@ -53,7 +53,7 @@ impl Board {
     {
         let width = self.width();
         let id = self.state.ids.len();
-        // a loop: it reads the cells that it writes
+        // a loop: after `for_each` nothing is known of the cells
         for w in 0..width {
             if self.is_other(a, b, w) {
                 let sum = self.amount(cells, a, w).sum(self.amount(cells, b, w));

@@ -3,7 +3,6 @@
 
 mod board;
 mod booking;
-mod cells;
 mod loading;
 mod playing;
 mod reading;

@@ -12,12 +12,11 @@ ghost use Rattle.board.specs.Trail.{part_id, started};
 ghost use Rattle.view.specs.View.{Roomy};
 
 use crate::board::Board;
-use crate::cells::put;
 use crate::refusals::LoadRefusal;
 use crate::state::{Id, State};
 use amount::Amount;
 use arrayvec::ArrayVec;
-use job::{Job, SizedJob};
+use job::{Job, SizedJob, put};
 use std::array;
 
 // Whether there are cells enough for every pair of ids.
@@ -77,7 +76,7 @@ fn write_square<A: Amount>(sized: &SizedJob<'_, A>, cells: &mut [A])
 }
 
 // The job, if it can be loaded into these cells.
-fn checked<'a, A: Amount>(job: &Job<'a, A>, cells: &[A]) -> Result<SizedJob<'a, A>, LoadRefusal>
+fn loadable<'a, A: Amount>(job: &Job<'a, A>, cells: &[A]) -> Result<SizedJob<'a, A>, LoadRefusal>
     ensures value { refusal_of result ≡ load_checked A.Amount.kind (job_of job.now) cells.now }
     ensures same { IfOk result (λ sized. job_of sized.job ≡ job_of job.now) }
     ensures tells { FirstBroken (load_rules A.Amount.kind (job_of job.now) cells.now) (refused_with load_number result) }
@@ -95,7 +94,7 @@ pub fn check<A: Amount>(job: &Job<'_, A>, cells: &[A]) -> Result<(), LoadRefusal
     ensures value { result ≡ load_checked A.Amount.kind (job_of job.now) cells.now }
     ensures tells { FirstBroken (load_rules A.Amount.kind (job_of job.now) cells.now) (refused_with load_number result) }
 {
-    checked(job, cells)?;
+    loadable(job, cells)?;
     Ok(())
 }
 
@@ -108,7 +107,7 @@ impl Board {
         ensures cells { cells.new ≡ if_done result (loaded_cells A.Amount.kind (job_of job.now) cells.old) cells.old }
         ensures reached { IfOk result (λ b. Reached A.Amount.kind (job_of job.now) (view_of b.state) cells.new (load_booked A.Amount.kind (job_of job.now))) }
     {
-        let sized = checked(job, cells)?;
+        let sized = loadable(job, cells)?;
         write_square(&sized, cells);
         let state = start_state(&sized);
         Ok(Board { state })

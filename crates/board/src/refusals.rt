@@ -6,7 +6,6 @@ ghost use Rattle.board.specs.declared.refusals.LoadRefusal.TheVariants.{Job};
 use job::JobRefusal;
 use std::error::Error;
 use std::fmt;
-use std::fmt::{Debug, Display};
 
 // Why a job is not loaded.
 #[derive(Clone, Copy, PartialEq, Eq, Debug)]
@@ -44,7 +43,7 @@ impl fmt::Display for LoadRefusal {
 
     fn fmt<W: fmt::Write>(&self, f: &mut fmt::Formatter<W>) -> fmt::Result {
         match self {
-            LoadRefusal::Job(refusal) => <JobRefusal as fmt::Display>::fmt(refusal, f),
+            LoadRefusal::Job(refusal) => fmt::Display::fmt(refusal, f),
             LoadRefusal::TooFewCells => f.write_str("there are too few cells"),
         }
     }
@@ -56,11 +55,11 @@ impl Error for LoadRefusal {}
 #[derive(Clone, Copy, PartialEq, Eq, Debug)]
 pub enum StepRefusal {
     // fewer cells than pairs of ids ask
-    TooFewCells,
+    TooFewCells = 2,
     // an id is not live, or both are the same
-    NotLive,
+    NotLive = 5,
     // the pair is apart
-    Apart,
+    Apart = 6,
 }
 
 impl StepRefusal {
@@ -68,21 +67,7 @@ impl StepRefusal {
     pub fn number(self) -> u8
         ensures { result ≡ step_number self }
     {
-        match self {
-            StepRefusal::TooFewCells => 2,
-            StepRefusal::NotLive => 5,
-            StepRefusal::Apart => 6,
-        }
-    }
-
-    fn text(self) -> &'static str
-        ensures { result.now ≡ step_text self }
-    {
-        match self {
-            StepRefusal::TooFewCells => "there are too few cells",
-            StepRefusal::NotLive => "an id is not live, or both are the same",
-            StepRefusal::Apart => "the pair is apart",
-        }
+        self as u8
     }
 }
 
@@ -91,7 +76,11 @@ impl fmt::Display for StepRefusal {
     ghost output = { λ refusal. Some (step_text refusal) };
 
     fn fmt<W: fmt::Write>(&self, f: &mut fmt::Formatter<W>) -> fmt::Result {
-        f.write_str(self.text())
+        f.write_str(match self {
+            StepRefusal::TooFewCells => "there are too few cells",
+            StepRefusal::NotLive => "an id is not live, or both are the same",
+            StepRefusal::Apart => "the pair is apart",
+        })
     }
 }
 
@@ -101,11 +90,11 @@ impl Error for StepRefusal {}
 #[derive(Clone, Copy, PartialEq, Eq, Debug)]
 pub enum RemainingRefusal {
     // there are not n labels
-    LabelCount,
+    LabelCount = 2,
     // a label is not the smallest part of its group
-    NotGrouping,
+    NotGrouping = 7,
     // an id is split, or two ids that are apart share a group
-    NotRespected,
+    NotRespected = 6,
 }
 
 impl RemainingRefusal {
@@ -113,21 +102,7 @@ impl RemainingRefusal {
     pub fn number(self) -> u8
         ensures { result ≡ remaining_number self }
     {
-        match self {
-            RemainingRefusal::LabelCount => 2,
-            RemainingRefusal::NotGrouping => 7,
-            RemainingRefusal::NotRespected => 6,
-        }
-    }
-
-    fn text(self) -> &'static str
-        ensures { result.now ≡ remaining_text self }
-    {
-        match self {
-            RemainingRefusal::LabelCount => "there is not one label for each part",
-            RemainingRefusal::NotGrouping => "the labels are not a grouping",
-            RemainingRefusal::NotRespected => "the grouping does not respect the board",
-        }
+        self as u8
     }
 }
 
@@ -136,7 +111,11 @@ impl fmt::Display for RemainingRefusal {
     ghost output = { λ refusal. Some (remaining_text refusal) };
 
     fn fmt<W: fmt::Write>(&self, f: &mut fmt::Formatter<W>) -> fmt::Result {
-        f.write_str(self.text())
+        f.write_str(match self {
+            RemainingRefusal::LabelCount => "there is not one label for each part",
+            RemainingRefusal::NotGrouping => "the labels are not a grouping",
+            RemainingRefusal::NotRespected => "the grouping does not respect the board",
+        })
     }
 }
 

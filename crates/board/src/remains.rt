@@ -84,7 +84,7 @@ impl Board {
         Bill::of_pair(self.share(labels, i, j), self.amount(cells, i, j))
     }
 
-    // The bill of all open pairs.
+    // The bill of all open pairs. (The chain of a job's bill, with another charge: a function of both would take the charge as a closure, and say no more than the chain does.)
     fn open_bill<A: Amount>(&self, cells: &[A], labels: &[usize]) -> Bill<A>
         ensures separating { result.separating ≡ remaining_separating A.Amount.kind (view_of self.now.state) cells.now labels.now }
         ensures joining { result.joining ≡ remaining_joining A.Amount.kind (view_of self.now.state) cells.now labels.now }

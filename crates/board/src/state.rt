@@ -18,7 +18,7 @@ const MAX_STEPS: usize = MAX_PARTS * (MAX_PARTS - 1) / 2;
 #[derive(Clone, Copy, Default)]
 pub(crate) struct Id {
     pub(crate) live: bool,
-    // of each id below this one: whether the two are apart
+    // of each id below this one: whether the two are apart (fixed memory: a flag for every id that may be)
     pub(crate) apart: [bool; MAX_IDS],
     // of each part: whether this id holds it
     pub(crate) members: [bool; MAX_PARTS],
@@ -55,7 +55,7 @@ impl State {
     {
         self.ids
             .get(id)
-            .is_some_and(|id| id.members.get(part) == Some(&true))
+            .is_some_and(|id| id.members.get(part).is_some_and(|held| *held))
     }
 
     // The id made of two: apart from what either is apart from, with the parts of both.

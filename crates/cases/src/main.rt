@@ -49,15 +49,6 @@ fn cheaper<A: Amount>(best: Option<(usize, A)>, place: usize, price: A) -> Optio
     }
 }
 
-// A job of three parts.
-fn of_three<'a, A>(square: &'a [A], marks: &'a [bool]) -> Job<'a, A> {
-    Job {
-        parts: PARTS,
-        square,
-        marks,
-    }
-}
-
 // The place of the cheapest grouping of three parts, with its cost.
 fn cheapest<A: Amount>(job: &Job<'_, A>) -> Option<(usize, A)> {
     GROUPINGS
@@ -114,25 +105,19 @@ fn show_refusals(rt: &HostRuntime) -> anyhow::Result<()> {
     let zero = Single::zero();
     let widest = Single::new(1_000_000)?;
     let wider = Single::new(1_000_001)?;
-    let many = Job {
-        parts: 33,
-        square: &[zero; 1089],
-        marks: &[false; 1089],
-    };
-    show_check(rt, "33 parts", &many)?;
-    show_check(rt, "3 parts, 8 amounts", &of_three(&[zero; 8], &UNMARKED))?;
+    show_check(rt, "33 parts", &Job::new(33, &[zero; 1089], &[false; 1089]))?;
+    show_check(
+        rt,
+        "3 parts, 8 amounts",
+        &Job::new(PARTS, &[zero; 8], &UNMARKED),
+    )?;
     let pairs = [
         ("0-1 is not 1-0", [zero, widest, zero, zero]),
         ("span 1,000,000", [zero, widest, widest, zero]),
         ("span 1,000,001", [zero, wider, wider, zero]),
     ];
     for (what, square) in &pairs {
-        let job = Job {
-            parts: 2,
-            square,
-            marks: &[false; 4],
-        };
-        show_check(rt, what, &job)?;
+        show_check(rt, what, &Job::new(2, square, &[false; 4]))?;
     }
     Ok(())
 }
@@ -140,16 +125,16 @@ fn show_refusals(rt: &HostRuntime) -> anyhow::Result<()> {
 fn main(rt: HostRuntime) -> anyhow::Result<()> {
     let square = square_of(Single::new(5)?, Single::new(-4)?, Single::new(3)?);
     println!(rt; "Three parts: 0-1 at 5, 0-2 at -4, 1-2 at 3.")?;
-    price_all(&rt, &of_three(&square, &UNMARKED))?;
+    price_all(&rt, &Job::new(PARTS, &square, &UNMARKED))?;
     println!(rt; "The same, with the pair 0-1 marked.")?;
-    price_all(&rt, &of_three(&square, &MARKED))?;
+    price_all(&rt, &Job::new(PARTS, &square, &MARKED))?;
     println!(rt; "Ranked amounts: 0-1 at 1/0, 0-2 at 0/-1000, 1-2 at 0/900.")?;
     let ranked = square_of(
         Ranked::new(1, 0)?,
         Ranked::new(0, -1000)?,
         Ranked::new(0, 900)?,
     );
-    price_all(&rt, &of_three(&ranked, &UNMARKED))?;
+    price_all(&rt, &Job::new(PARTS, &ranked, &UNMARKED))?;
     println!(rt; "Jobs and what their check says.")?;
     show_refusals(&rt)?;
     let count = worked_cases();

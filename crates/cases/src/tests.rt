@@ -5,12 +5,10 @@ use std::test::Fail;
 
 // The number of the refusal, absent where the grouping is priced.
 fn refusal(parts: usize, square: &[Single], marks: &[bool], labels: &[usize]) -> Option<u8> {
-    let job = Job {
-        parts,
-        square,
-        marks,
-    };
-    job.cost(labels).err().map(|refusal| refusal.number())
+    Job::new(parts, square, marks)
+        .cost(labels)
+        .err()
+        .map(|refusal| refusal.number())
 }
 
 #[test]

@@ -13,7 +13,7 @@ use crate::{
 };
 use amount::{Amount, is_same};
 
-// A job: how many parts there are, the square of amounts and the marks, both row by row. Nothing is checked of it.
+// A job as users lend it: how many parts there are, the square of amounts and the marks, both row by row. Nothing is checked of it, so what is read of it answers for any numbers, as the definitions do.
 #[derive(Clone, Copy)]
 pub struct Job<'a, A> {
     pub parts: usize,
@@ -30,6 +30,17 @@ pub struct SizedJob<'a, A> {
 }
 
 impl<'a, A: Amount> Job<'a, A> {
+    // The job of these.
+    pub fn new(parts: usize, square: &'a [A], marks: &'a [bool]) -> Self
+        ensures { job_of result ≡ record { parts = parts; square = square.now; marks = marks.now } }
+    {
+        Job {
+            parts,
+            square,
+            marks,
+        }
+    }
+
     // The amount in row i and column j; a cell that is not there reads as zero.
     pub fn amount(&self, i: usize, j: usize) -> A
         ensures { result ≡ amount_at A.Amount.kind (job_of self.now) i j }

@@ -15,7 +15,7 @@ mod lent;
 mod pairs;
 
 pub use bills::Bill;
-pub use cells::cell;
+pub use cells::{cell, put};
 pub use groups::{is_grouping, label, share_group};
 pub use lent::{Job, SizedJob};
 pub use pairs::Pairs;
@@ -30,13 +30,13 @@ pub const MAX_SPAN: u64 = 1_000_000;
 #[derive(Clone, Copy, PartialEq, Eq, Debug)]
 pub enum JobRefusal {
     // n is not from 1 to 32
-    PartCount,
+    PartCount = 1,
     // square or marks are not n by n
-    WrongSize,
+    WrongSize = 2,
     // asymmetric, or something on the diagonal
-    Lopsided,
+    Lopsided = 3,
     // a span is above 1,000,000
-    TooWide,
+    TooWide = 4,
 }
 
 impl JobRefusal {
@@ -44,24 +44,7 @@ impl JobRefusal {
     pub fn number(self) -> u8
         ensures { result ≡ job_number self }
     {
-        match self {
-            JobRefusal::PartCount => 1,
-            JobRefusal::WrongSize => 2,
-            JobRefusal::Lopsided => 3,
-            JobRefusal::TooWide => 4,
-        }
-    }
-
-    fn text(self) -> &'static str
-        ensures { result.now ≡ job_text self }
-    {
-        match self {
-            JobRefusal::PartCount => "too few or too many parts",
-            JobRefusal::WrongSize => "square or marks are not as long as the parts ask",
-            JobRefusal::Lopsided =>
-                "square or marks are lopsided or hold something on the diagonal",
-            JobRefusal::TooWide => "an amount of the square is too wide",
-        }
+        self as u8
     }
 }
 
@@ -70,7 +53,14 @@ impl fmt::Display for JobRefusal {
     ghost output = { λ refusal. Some (job_text refusal) };
 
     fn fmt<W: fmt::Write>(&self, f: &mut fmt::Formatter<W>) -> fmt::Result {
-        f.write_str(self.text())
+        f.write_str(match self {
+            JobRefusal::PartCount => "too few or too many parts",
+            JobRefusal::WrongSize => "square or marks are not as long as the parts ask",
+            JobRefusal::Lopsided => {
+                "square or marks are lopsided or hold something on the diagonal"
+            }
+            JobRefusal::TooWide => "an amount of the square is too wide",
+        })
     }
 }
 
@@ -110,17 +100,6 @@ impl CostRefusal {
             CostRefusal::Marked => 6,
         }
     }
-
-    fn text(self) -> &'static str
-        ensures { result.now ≡ cost_text self }
-    {
-        match self {
-            CostRefusal::Job(refusal) => refusal.text(),
-            CostRefusal::LabelCount => "there is not one label for each part",
-            CostRefusal::NotGrouping => "a label is not the smallest part of its group",
-            CostRefusal::Marked => "a marked pair shares a group",
-        }
-    }
 }
 
 // By hand: a derived one states no text.
@@ -128,7 +107,14 @@ impl fmt::Display for CostRefusal {
     ghost output = { λ refusal. Some (cost_text refusal) };
 
     fn fmt<W: fmt::Write>(&self, f: &mut fmt::Formatter<W>) -> fmt::Result {
-        f.write_str(self.text())
+        match self {
+            CostRefusal::Job(refusal) => fmt::Display::fmt(refusal, f),
+            CostRefusal::LabelCount => f.write_str("there is not one label for each part"),
+            CostRefusal::NotGrouping => {
+                f.write_str("a label is not the smallest part of its group")
+            }
+            CostRefusal::Marked => f.write_str("a marked pair shares a group"),
+        }
     }
 }
 

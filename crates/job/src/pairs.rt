@@ -1,8 +1,8 @@
 // The pairs of numbers below a limit.
 ghost use Rattle.std.specs.Prelude.{◌≡◌, ◌<◌};
 
-// The pairs that are still to come: each number with those below it, row by row.
-#[derive(Clone, Copy)]
+// The pairs that are still to come: each number with those below it, row by row. (A struct: a function cannot answer a chain.)
+#[derive(Drop)]
 pub struct Pairs {
     smaller: usize,
     larger: usize,

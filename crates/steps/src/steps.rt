@@ -1,4 +1,4 @@
-// Steps on the board of the first worked job: tried, dropped, kept and refused.
+// Steps on the board of the first worked job: tried, dropped, kept and refused. (A program is no library: what it shares with the program `cases` stands in both.)
 use amount::{Amount, Single, is_same};
 use board::{Board, StepRefusal, play};
 use job::Job;
@@ -141,11 +141,7 @@ fn show_list(rt: &HostRuntime, job: &Job<'_, Single>) -> anyhow::Result<()> {
 // Plays the steps, and shows what each answers.
 pub fn show_steps(rt: &HostRuntime, square: &[Single]) -> anyhow::Result<()> {
     let mut cells = [Single::zero(); CELLS];
-    let job = Job {
-        parts: PARTS,
-        square,
-        marks: &UNMARKED,
-    };
+    let job = Job::new(PARTS, square, &UNMARKED);
     let mut board = Board::load(&job, &mut cells)?;
     let parts = board.parts();
     println!(rt; "  loaded: {parts} parts")?;

@@ -4,20 +4,11 @@ use board::{Board, StepRefusal};
 use job::Job;
 use std::test::Fail;
 
-// A job of so many parts.
-fn job<'a>(parts: usize, square: &'a [Single], marks: &'a [bool]) -> Job<'a, Single> {
-    Job {
-        parts,
-        square,
-        marks,
-    }
-}
-
 // A join inside a separation, each kept or dropped: how many ids are live then, and whether 0 and 2, and 2 and 3, are apart.
 fn nested(outer_kept: bool, inner_kept: bool) -> Result<(usize, bool, bool), Fail> {
     let zero = Single::zero();
     let mut cells = [zero; 25];
-    let mut board = Board::load(&job(3, &[zero; 9], &[false; 9]), &mut cells)?;
+    let mut board = Board::load(&Job::new(3, &[zero; 9], &[false; 9]), &mut cells)?;
     {
         let outer = board.separate(&cells, 0, 2);
         {
@@ -49,7 +40,7 @@ fn left_early(board: &mut Board, cells: &mut [Single]) -> Result<usize, StepRefu
 fn early_return(rt: HostRuntime) -> Result<(), Fail> {
     let zero = Single::zero();
     let mut cells = [zero; 25];
-    let mut board = Board::load(&job(3, &[zero; 9], &[false; 9]), &mut cells)?;
+    let mut board = Board::load(&Job::new(3, &[zero; 9], &[false; 9]), &mut cells)?;
     assert!(rt; left_early(&mut board, &mut cells).is_err());
     assert!(rt; board.is_open(0, 2));
     Ok(())
@@ -104,29 +95,32 @@ fn board_refusals_in_order(rt: HostRuntime) -> Result<(), Fail> {
     let mut short = [zero; 8];
     let mut cells = [zero; 9];
     let loads = [
-        (load_refusal(&job(33, &[], &[]), &mut []), Some(1)),
+        (load_refusal(&Job::new(33, &[], &[]), &mut []), Some(1)),
         (
-            load_refusal(&job(2, &[wide; 3], &marked), &mut short),
+            load_refusal(&Job::new(2, &[wide; 3], &marked), &mut short),
             Some(2),
         ),
         (
-            load_refusal(&job(2, &lopsided, &marked), &mut short),
+            load_refusal(&Job::new(2, &lopsided, &marked), &mut short),
             Some(2),
         ),
         (
-            load_refusal(&job(2, &lopsided, &marked), &mut cells),
+            load_refusal(&Job::new(2, &lopsided, &marked), &mut cells),
             Some(3),
         ),
         (
-            load_refusal(&job(2, &too_wide, &marked), &mut cells),
+            load_refusal(&Job::new(2, &too_wide, &marked), &mut cells),
             Some(4),
         ),
-        (load_refusal(&job(2, &[zero; 4], &marked), &mut cells), None),
+        (
+            load_refusal(&Job::new(2, &[zero; 4], &marked), &mut cells),
+            None,
+        ),
     ];
     for (given, expected) in loads {
         assert_eq!(rt; given, expected);
     }
-    let mut board = Board::load(&job(2, &[zero; 4], &marked), &mut cells)?;
+    let mut board = Board::load(&Job::new(2, &[zero; 4], &marked), &mut cells)?;
     let steps = [
         (step_refusals(&mut board, &mut short, 0, 7), Some(2)),
         (step_refusals(&mut board, &mut cells, 0, 7), Some(5)),
