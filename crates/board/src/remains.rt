@@ -17,7 +17,8 @@ use job::{Bill, Pairs, is_grouping, share_group};
 impl Board {
     // The smallest part of an id, and 0 if it holds none, as the definition has it: a live id holds one.
     fn first_part(&self, id: usize) -> usize
-        ensures { result ≡ first_part (view_of self.now.state) id }
+        ensures value { result ≡ first_part (view_of self.now.state) id }
+        ensures inside { result < (view_of self.now.state).parts }
     {
         (0..self.parts())
             .find(|part| self.holds(id, *part))

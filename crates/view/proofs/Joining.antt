@@ -30,6 +30,11 @@ pub first_is : (q : ℕ → Bool) (s m p : ℕ) → s ≤ p → p < s + m → ((
 first_is q s zero p l h none e = let no : ⊥ = omega arith in absurd no
 first_is q s (suc m) p l h none e = let here = none s in let later = first_is q (s + 1) m p in grind (arith, nat_tests)
 
+-- it is one of the numbers, or 0
+pub first_below : (q : ℕ → Bool) (s m : ℕ) → 0 < s + m → first q (range_with_len s m) < s + m
+first_below q s zero h = h
+first_below q s (suc m) h = grind (arith, nat_tests, first_below q (s + 1) m)
+
 pub first_held : (v : View) → Good v → (i : ℕ) → v.live i ≡ true → v.holds i (first_part v i) ≡ true
 first_held v g i l = let s = g.some_part i l in first_holds (v.holds i) 0 v.parts s.0 (omega arith) (omega (arith, g.holds_part i s.0 s.1)) s.1
 
