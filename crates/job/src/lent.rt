@@ -41,14 +41,14 @@ impl<'a, A: Amount> Job<'a, A> {
         }
     }
 
-    // The amount in row i and column j; a cell that is not there reads as zero.
+    // The amount in row i and column j: for a column beyond the row's end, one of a later row; a cell that is not there reads as zero.
     pub fn amount(&self, i: usize, j: usize) -> A
         ensures { result ≡ amount_at A.Amount.kind (job_of self.now) i j }
     {
         cell(self.square, self.parts, i, j).unwrap_or(A::zero())
     }
 
-    // Whether the pair of i and j is marked; a mark that is not there reads as none.
+    // Whether the pair of i and j is marked, read in the same place; a mark that is not there reads as none.
     pub fn is_marked(&self, i: usize, j: usize) -> bool
         ensures { result ≡ marked (job_of self.now) i j }
     {
@@ -91,7 +91,7 @@ impl<'a, A: Amount> Job<'a, A> {
         self.square.iter().all(|amount| amount.span() <= MAX_SPAN)
     }
 
-    // The first part of the check: how many parts there are, and how long square and marks are. It writes nothing.
+    // The first part of the check: how many parts there are, and how long square and marks are.
     pub fn sized(&self) -> Result<SizedJob<'a, A>, JobRefusal>
         ensures value { refusal_of result ≡ sizes_checked (job_of self.now) }
         ensures same { IfOk result (λ sized. job_of sized.job ≡ job_of self.now) }
@@ -107,7 +107,7 @@ impl<'a, A: Amount> Job<'a, A> {
         Ok(SizedJob { job: *self })
     }
 
-    // The check of a job: it writes nothing.
+    // The check of a job.
     pub fn check(&self) -> Result<(), JobRefusal>
         ensures value { result ≡ checked A.Amount.kind (job_of self.now) }
         ensures tells { FirstBroken (job_rules A.Amount.kind (job_of self.now)) (refused_with job_number result) }
