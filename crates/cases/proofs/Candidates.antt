@@ -51,6 +51,10 @@ of_candidates P p (suc m) h (x ∷ xs) e l =
 abbrev pub is_no_less : {A : Type 0} → Kind A → Job A → A → List ℕ → Bool
 is_no_less k job x labels = not (is_grouping job.parts labels && is_respectful job labels) || not (k.below (cost k job labels) x)
 
+-- what all pass, each passes
+all_told : {X : Type 0} (p : X → Bool) (xs : List X) → list_all p xs ≡ true → AllByRecursion (λ x. p x ≡ true) xs
+all_told p xs e = recursion_from_All _ xs (AllPass-from_list_all p xs e)
+
 pub least_by_trying : {A : Type 0} (k : Kind A) (job : Job A) (x : A) (labels : List ℕ) → Mirrored k job → length labels ≡ job.parts → is_grouping job.parts labels ≡ true → is_respectful job labels ≡ true → cost k job labels ≡ x → list_all (is_no_less k job x) (candidates 0 job.parts) ≡ true → Least k job x
 least_by_trying {A} k job x labels even n g r c t = record {
   labels = labels;
@@ -58,8 +62,7 @@ least_by_trying {A} k job x labels even n g r c t = record {
   respects = (respect_tells k job labels even).0 r;
   attained = c;
   none_less = λ others grouping respects.
-      let passes = recursion_from_All _ _ (AllPass-from_list_all (is_no_less k job x) (candidates 0 job.parts) t) in
-      let told = of_candidates (λ ls. is_no_less k job x ls ≡ true) 0 job.parts passes others grouping.counted (λ i l. omega (arith, grouping.smallest i i l l refl)) in
+      let told = of_candidates (λ ls. is_no_less k job x ls ≡ true) 0 job.parts (all_told (is_no_less k job x) (candidates 0 job.parts) t) others grouping.counted (λ i l. omega (arith, grouping.smallest i i l l refl)) in
       let is_one : is_grouping job.parts others ≡ true = (grouping_tells job.parts others grouping.counted).1 grouping in
       let keeps : is_respectful job others ≡ true = (respect_tells k job others even).1 respects in
       grind arith;
