@@ -35,7 +35,7 @@ impl WidthRefusal {
     }
 }
 
-// By hand, as with each refusal: the `Display` that the kit's `thiserror` derives states no text.
+// By hand, as with each refusal: the `Display` that the kit's `thiserror` derives states no text, and the gate refuses an `impl` that a macro of one's own writes.
 impl fmt::Display for WidthRefusal {
     ghost output = { λ refusal. Some (width_text refusal) };
 

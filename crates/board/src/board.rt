@@ -5,7 +5,7 @@ ghost use Rattle.board.specs.Trail.{Past};
 
 use crate::state::State;
 
-// A board: live ids, the parts of each, and the pairs that are apart. It keeps a trail of its standing steps. Its amounts are in cells that are lent beside it in each call: they outlast it, and a trial that falls does not give them back.
+// A board: live ids, the parts of each, and the pairs that are apart. It keeps a trail of its standing steps. Its amounts are in cells that are lent beside it in each call, by a rule of the engine: they outlast it, and a trial that falls does not give them back.
 #[derive(Drop)]
 pub struct Board {
     pub(crate) state: State,

@@ -19,7 +19,7 @@ use arrayvec::ArrayVec;
 use job::{Job, SizedJob, put};
 use std::array;
 
-// Whether there are cells enough for every pair of ids.
+// Whether there are cells enough for every pair of ids. (A step asks the same of a board; a function of the width alone would have to ask that it is small.)
 fn is_roomy<A: Amount>(sized: &SizedJob<'_, A>, cells: &[A]) -> bool
     ensures { result ≡ is_roomy (start (job_of sized.now.job)) cells.now }
 {
@@ -69,7 +69,7 @@ fn write_square<A: Amount>(sized: &SizedJob<'_, A>, cells: &mut [A])
 {
     let parts = sized.job.parts;
     let width = 2 * parts - 1;
-    // a loop: after `for_each` nothing is known of the cells
+    // a loop over places, each of which tells row and column: after `for_each` nothing is known of the cells
     for (place, amount) in sized.job.square.iter().enumerate() {
         put(cells, width, place / parts, place % parts, *amount);
     }

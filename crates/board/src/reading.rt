@@ -61,7 +61,7 @@ impl Board {
         self.is_live(id) && self.state.is_member(id, part)
     }
 
-    // The amount of two ids, in the row of the first; a cell that is not there reads as zero, as the definition has it, so that nothing is asked of a caller.
+    // The amount of two ids, in the row of the first; a cell that is not there reads as zero, as the definition has it. (An `Option` would put that zero at each call.)
     pub fn amount<A: Amount>(&self, cells: &[A], i: usize, j: usize) -> A
         ensures { result ≡ amount_in A.Amount.kind (view_of self.now.state) cells.now i j }
     {

@@ -26,7 +26,7 @@ impl From<JobRefusal> for LoadRefusal {
 }
 
 impl LoadRefusal {
-    // The number by which users know it.
+    // The number by which users know it. (By a match: a case that holds a refusal has no number of its own.)
     pub fn number(self) -> u8
         ensures { result ≡ load_number self }
     {

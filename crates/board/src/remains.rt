@@ -15,7 +15,7 @@ use amount::Amount;
 use job::{Bill, Pairs, is_grouping, share_group};
 
 impl Board {
-    // The smallest part of an id, and 0 if it holds none, as the definition has it: a live id holds one.
+    // The smallest part of an id, and 0 if it holds none, as the definition has it. (An `Option` would put that 0 at each call, and a live id holds a part.)
     fn first_part(&self, id: usize) -> usize
         ensures value { result ≡ first_part (view_of self.now.state) id }
         ensures inside { result < (view_of self.now.state).parts }
@@ -60,7 +60,7 @@ impl Board {
         self.is_apart(i, j) && self.share(labels, i, j)
     }
 
-    // Whether no two ids that are apart share a group.
+    // Whether no two ids that are apart share a group. (The chain of a job's `is_respected`, with a test of its own.)
     fn are_kept_apart(&self, labels: &[usize]) -> bool
         ensures { result ≡ every_pair (width (view_of self.now.state)) (λ i j. not (is_clash (view_of self.now.state) labels.now i j)) }
     {

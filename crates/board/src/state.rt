@@ -14,13 +14,13 @@ const MAX_IDS: usize = 2 * MAX_PARTS - 1;
 // A step settles at least one pair of parts, so no more than these stand.
 const MAX_STEPS: usize = MAX_PARTS * (MAX_PARTS - 1) / 2;
 
-// What belongs to one id.
+// What belongs to one id. Whether it is live is a flag beside the rest, and no `Option` of it: taking back a join turns the flag on again over what stands there.
 #[derive(Clone, Copy, Default)]
 pub(crate) struct Id {
     pub(crate) live: bool,
     // of each id below this one: whether the two are apart (fixed memory: a flag for every id that may be)
     pub(crate) apart: [bool; MAX_IDS],
-    // of each part: whether this id holds it
+    // of each part: whether this id holds it (fixed memory, likewise)
     pub(crate) members: [bool; MAX_PARTS],
 }
 
@@ -28,7 +28,7 @@ pub(crate) struct Id {
 #[derive(Drop)]
 pub(crate) struct State {
     pub(crate) parts: usize,
-    // the ids that were made, the parts first; their number is the next unused id
+    // the ids that were made, the parts first; an id is its place here, since users name ids by number and nothing may be allocated, and the next unused one is how many they are
     pub(crate) ids: ArrayVec<Id, MAX_IDS>,
     // the steps that stand, first to last
     pub(crate) trail: ArrayVec<Step, MAX_STEPS>,

@@ -88,7 +88,7 @@ fn price_all<A: Amount + Display>(rt: &HostRuntime, job: &Job<'_, A>) -> anyhow:
     Ok(())
 }
 
-// Says what the check of a job answers.
+// Says what the check of a job answers. (Its refusal has a type and a sentence of its own.)
 fn show_check(rt: &HostRuntime, what: &str, job: &Job<'_, Single>) -> anyhow::Result<()> {
     match job.check() {
         Ok(()) => println!(rt; "  {what}: passes")?,

@@ -1,7 +1,7 @@
 // Cells in rows of one length.
 ghost use Rattle.std.specs.Prelude.{◌≡◌, ◌+◌, ◌-◌, ◌*◌, ◌^◌, min, slice_get, slice_set};
 
-// Where the cell in row i and column j stands: the one place that computes an index. Beyond all numbers it is the largest one, and no cell stands there.
+// Where the cell in row i and column j stands: the one place that computes an index. Where that is above the largest `usize` it is that one, and no cell stands there.
 fn place(width: usize, i: usize, j: usize) -> usize
     ensures { result ≡ min (i * width + j) (2 ^ 64 - 1) }
 {

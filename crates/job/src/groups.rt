@@ -2,7 +2,7 @@
 ghost use Rattle.std.specs.Prelude.{◌≡◌, ◌↔◌, length, IsTrue};
 ghost use Rattle.job.specs.Grouping.{Grouping, label, together, is_label, is_grouping};
 
-// The label of a part; one that is not there reads as 0, as the definition has it, so that nothing is asked of a caller.
+// The label of a part; one that is not there reads as 0, as the definition has it. (An `Option` would put that 0 at each call.)
 pub fn label(labels: &[usize], part: usize) -> usize
     ensures { result ≡ label labels.now part }
 {

@@ -13,7 +13,7 @@ use crate::{
 };
 use amount::{Amount, is_same};
 
-// A job as users lend it: how many parts there are, the square of amounts and the marks, both row by row. Nothing is checked of it, so what is read of it answers for any numbers, as the definitions do.
+// A job: how many parts there are, the square of amounts and the marks, both row by row. The three are as users lend them, and nothing is checked of them: whether they fit, the check says.
 #[derive(Clone, Copy)]
 pub struct Job<'a, A> {
     pub parts: usize,
@@ -21,7 +21,7 @@ pub struct Job<'a, A> {
     pub marks: &'a [bool],
 }
 
-// A job with as many parts as may be, and with buffers as long as they ask.
+// A job with a number of parts that is allowed, and with square and marks of the size that it asks.
 #[derive(Drop)]
 pub struct SizedJob<'a, A> {
     pub job: Job<'a, A>,
@@ -30,7 +30,7 @@ pub struct SizedJob<'a, A> {
 }
 
 impl<'a, A: Amount> Job<'a, A> {
-    // The job of these.
+    // The job of these parts, this square and these marks.
     pub fn new(parts: usize, square: &'a [A], marks: &'a [bool]) -> Self
         ensures { job_of result ≡ record { parts = parts; square = square.now; marks = marks.now } }
     {
@@ -41,14 +41,14 @@ impl<'a, A: Amount> Job<'a, A> {
         }
     }
 
-    // The amount in row i and column j: for a column beyond the row's end, one of a later row; a cell that is not there reads as zero.
+    // The amount in row i and column j: for a column beyond the row's end, one of a later row; a cell that is not there reads as zero, as the definition has it. (An `Option` would put that zero at each call.)
     pub fn amount(&self, i: usize, j: usize) -> A
         ensures { result ≡ amount_at A.Amount.kind (job_of self.now) i j }
     {
         cell(self.square, self.parts, i, j).unwrap_or(A::zero())
     }
 
-    // Whether the pair of i and j is marked, read in the same place; a mark that is not there reads as none.
+    // Whether the pair of i and j is marked, read in the same place; a mark that is not there reads as none, likewise.
     pub fn is_marked(&self, i: usize, j: usize) -> bool
         ensures { result ≡ marked (job_of self.now) i j }
     {
@@ -129,7 +129,7 @@ impl<'a, A: Amount> Job<'a, A> {
         self.is_marked(i, j) && share_group(labels, i, j)
     }
 
-    // Whether no marked pair shares a group.
+    // Whether no marked pair shares a group. (A board has the same chain, with a test of its own: a function of both would take the test as a closure, and say no more than the chain does.)
     fn is_respected(&self, labels: &[usize]) -> bool
         ensures { result ≡ is_respectful (job_of self.now) labels.now }
     {

@@ -89,7 +89,7 @@ impl From<JobRefusal> for CostRefusal {
 }
 
 impl CostRefusal {
-    // The number by which users know it.
+    // The number by which users know it. (By a match: a case that holds a refusal has no number of its own.)
     pub fn number(self) -> u8
         ensures { result ≡ cost_number self }
     {

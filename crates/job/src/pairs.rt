@@ -1,7 +1,7 @@
 // The pairs of numbers below a limit.
 ghost use Rattle.std.specs.Prelude.{◌≡◌, ◌<◌};
 
-// The pairs that are still to come: each number with those below it, row by row. (A struct: a function cannot answer a chain.)
+// The pairs that are still to come: each number with those below it, row by row. (A struct: a chain that a function answers gets no proof. Calls take the two numbers one by one, since a tuple would put `.0` and `.1` in every clause.)
 #[derive(Drop)]
 pub struct Pairs {
     smaller: usize,

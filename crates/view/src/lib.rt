@@ -16,7 +16,7 @@ pub enum Step {
     Separation(usize, usize),
 }
 
-// What stands in a place of a list of fixed room that no step has taken: such lists ask for one, and no call answers it. (By hand: a case with fields is no derived default.)
+// Fills the unused places of a list of fixed room, which asks for a default; no call answers it. (By hand: a case with fields is no derived default.)
 impl Default for Step {
     ghost is_default = { λ step. step ≡ Join 0 0 };
 
