@@ -5,27 +5,20 @@ ghost use Rattle.job.specs.Job.{marked};
 ghost use Rattle.job.specs.Lent.{job_of};
 ghost use Rattle.view.specs.Reached.{Reached};
 ghost use Rattle.view.specs.Steps.{start, loaded_cells, load_booked};
-ghost use Rattle.board.specs.Answers.{if_done, is_roomy, load_checked, load_rules};
+ghost use Rattle.board.specs.Answers.{if_done, load_checked, load_rules};
 ghost use Rattle.board.specs.Refusals.{load_number};
 ghost use Rattle.board.specs.State.{standing, view_of};
 ghost use Rattle.board.specs.Trail.{part_id, started};
 ghost use Rattle.view.specs.View.{Roomy};
 
 use crate::board::Board;
+use crate::reading::is_roomy;
 use crate::refusals::LoadRefusal;
 use crate::state::{Id, State};
 use amount::Amount;
 use arrayvec::ArrayVec;
 use job::{Job, SizedJob, put};
 use std::array;
-
-// Whether there are cells enough for every pair of ids. (A step asks the same of a board; a function of the width alone would have to ask that it is small.)
-fn is_roomy<A: Amount>(sized: &SizedJob<'_, A>, cells: &[A]) -> bool
-    ensures { result ≡ is_roomy (start (job_of sized.now.job)) cells.now }
-{
-    let width = 2 * sized.job.parts - 1;
-    cells.len() >= width * width
-}
 
 // Whether a part is marked with one below it.
 fn is_marked_below<A: Amount>(job: &Job<'_, A>, part: usize, below: usize) -> bool
@@ -82,7 +75,7 @@ fn loadable<'a, A: Amount>(job: &Job<'a, A>, cells: &[A]) -> Result<SizedJob<'a,
     ensures tells { FirstBroken (load_rules A.Amount.kind (job_of job.now) cells.now) (refused_with load_number result) }
 {
     let sized = job.sized()?;
-    if !is_roomy(&sized, cells) {
+    if !is_roomy(sized.job.parts, cells) {
         return Err(LoadRefusal::TooFewCells);
     }
     job.check()?;

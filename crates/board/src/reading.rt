@@ -1,11 +1,21 @@
 // What a board tells.
-ghost use Rattle.std.specs.Prelude.{◌≡◌, ◌-◌, ◌*◌, ◌&&◌, length};
+ghost use Rattle.std.specs.Prelude.{◌≡◌, ◌-◌, ◌*◌, ◌≤◌, ◌&&◌, length, nat_le};
+ghost use Rattle.job.specs.Job.{max_parts};
 ghost use Rattle.view.specs.View.{width, ids, is_open, amount_in};
 ghost use Rattle.board.specs.State.{view_of};
 
 use crate::board::Board;
 use amount::Amount;
 use job::cell;
+
+// Whether there are cells enough for every pair of ids, with so many parts.
+pub(crate) fn is_roomy<A: Amount>(parts: usize, cells: &[A]) -> bool
+    requires { (1 ≤ parts) × (parts ≤ max_parts) }
+    ensures { result ≡ nat_le ((2 * parts - 1) * (2 * parts - 1)) (length cells.now) }
+{
+    let width = 2 * parts - 1;
+    cells.len() >= width * width
+}
 
 impl Board {
     // Ids are below this; cells are in rows of this length.

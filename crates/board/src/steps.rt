@@ -8,6 +8,7 @@ ghost use Rattle.board.specs.State.{standing, view_of};
 ghost use Rattle.board.specs.Trail.{Legal, Stays, view_after};
 
 use crate::board::Board;
+use crate::reading::is_roomy;
 use crate::refusals::StepRefusal;
 use crate::trial::Trial;
 use amount::Amount;
@@ -15,11 +16,11 @@ use view::Step;
 
 impl Board {
     // Whether a step of the two may be taken.
+    #[tactic(auto, unfolding(crate::specs::State::view_of))]
     fn check_step<A: Amount>(&self, cells: &[A], a: usize, b: usize) -> Result<(), StepRefusal>
         ensures { result ≡ step_checked (view_of self.now.state) cells.now a b }
     {
-        let width = self.width();
-        if cells.len() < width * width {
+        if !is_roomy(self.state.parts, cells) {
             return Err(StepRefusal::TooFewCells);
         }
         if !self.are_live(a, b) || a == b {
