@@ -1,4 +1,4 @@
-// Joins and separations, each on trial. They are two calls, since they answer different things and only a join writes cells. The cells and the two ids come one by one all the way down: a struct of them would put a field path in place of each name in every clause.
+// Joins and separations, each on trial. They are two calls, since they answer different things and only a join writes cells. The cells and the two ids come one by one all the way down: a struct of them would put a field path in place of each name in every clause. That the marks before a step lead back to where they did (`stays`) is a clause of its own, since it holds of a refused step too.
 ghost use Rattle.std.specs.Prelude.{◌≡◌, Some, IfOk};
 ghost use Rattle.job.specs.Answers.{refused_with, FirstBroken};
 ghost use Rattle.view.specs.Steps.{joined, joined_cells, separated};

@@ -4,7 +4,7 @@ ghost use Rattle.job.specs.Cost.{separating_term, joining_term};
 
 use amount::Amount;
 
-// What is paid for pairs in different groups, and for pairs that share one.
+// What is paid for pairs in different groups, and for pairs that share one: two definitions, so that each has a clause of its own wherever a bill is made.
 #[derive(Clone, Copy)]
 pub struct Bill<A> {
     pub separating: A,

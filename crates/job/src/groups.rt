@@ -1,4 +1,4 @@
-// Groupings: a label for each part, the smallest part of its group.
+// Groupings: a label for each part, the smallest part of its group. Labels are a slice, as users lend them, beside the numbers that are asked of.
 ghost use Rattle.std.specs.Prelude.{◌≡◌, ◌↔◌, length, IsTrue};
 ghost use Rattle.job.specs.Grouping.{Grouping, label, together, is_label, is_grouping};
 
