@@ -1,7 +1,8 @@
 // Joins and separations, each on trial. They are two calls, since they answer different things and only a join writes cells. The cells and the two ids come one by one all the way down: a struct of them would put a field path in place of each name in every clause. That the marks before a step lead back to where they did (`stays`) is a clause of its own, since it holds of a refused step too.
-ghost use Rattle.std.specs.Prelude.{◌≡◌, Some, IfOk};
+ghost use Rattle.std.specs.Prelude.{◌≡◌, true, Some, IfOk};
 ghost use Rattle.job.specs.Answers.{refused_with, FirstBroken};
-ghost use Rattle.view.specs.Steps.{joined, joined_cells, separated};
+ghost use Rattle.view.specs.Steps.{join_booked, joined, joined_cells, separated};
+ghost use Rattle.view.specs.View.{is_open, next, Roomy};
 ghost use Rattle.board.specs.Answers.{step_checked, step_rules, join_answer, separation_answer, if_done, StepsTo, Leaves, Carries};
 ghost use Rattle.board.specs.Refusals.{step_number};
 ghost use Rattle.board.specs.State.{standing, view_of};
@@ -41,7 +42,22 @@ impl Board {
         self.state.put(step);
     }
 
-    // A join, or the first refusal that applies: the answer is the new id with what it booked.
+    // The join itself: the two become one, and the answer is the new id with what it booked. (That the pair is open is asked here and of what it calls: a struct that says so would hold the board while it is changed.)
+    fn take_join<A: Amount>(&mut self, cells: &mut [A], a: usize, b: usize) -> (usize, A)
+        requires { (Roomy (view_of self.old.state) cells.old) × (is_open (view_of self.old.state) a b ≡ true) }
+        ensures answer { result ≡ (next (view_of self.old.state), join_booked A.Amount.kind (view_of self.old.state) cells.old a b) }
+        ensures cells { cells.new ≡ joined_cells A.Amount.kind (view_of self.old.state) cells.old a b }
+        ensures taken { StepsTo self.old.state (joined (view_of self.old.state) a b) self.new.state }
+        ensures stays { Stays self.old.state self.new.state }
+    {
+        let id = self.state.ids.len();
+        let booked = self.join_booked(cells, a, b);
+        self.write_amounts(cells, a, b);
+        self.put(Step::Join(a, b));
+        (id, booked)
+    }
+
+    // A join, or the first refusal that applies.
     fn try_join<A: Amount>(
         &mut self,
         cells: &mut [A],
@@ -54,11 +70,7 @@ impl Board {
         ensures stays { Stays self.old.state self.new.state }
     {
         self.check_step(cells, a, b)?;
-        let id = self.state.ids.len();
-        let booked = self.join_booked(cells, a, b);
-        self.write_amounts(cells, a, b);
-        self.put(Step::Join(a, b));
-        Ok((id, booked))
+        Ok(self.take_join(cells, a, b))
     }
 
     // A separation, or the first refusal that applies: the answer is what it booked.
