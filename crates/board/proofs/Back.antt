@@ -241,9 +241,6 @@ module _ (s : State) (p : ∥ Past (standing s) s ∥₁) where
 
   -- t is s with its last step taken back
   module _ (h : 0 < standing s) (t : State) (is : t ≡ undone s) where
-    pub undo_fewer : standing t + 1 ≡ standing s
-    undo_fewer = ap (λ (u : State). standing u + 1) is ∙ ∥∥₁_elim p (Coded-set coded_ℕ _ _) (λ q. (undoes s h q).fewer)
-
     pub undo_past : ∥ Past (standing t) t ∥₁
     undo_past = subst (λ (u : State). ∥ Past (standing u) u ∥₁) (sym is) (∥∥₁_map p (λ q. (undoes s h q).past))
 

@@ -1,5 +1,5 @@
 -- The list of pairs, row by row.
-use Rattle.std.proofs.Common.{◌≡◌, ℕ, zero, suc, ◌+◌, ◌-◌, ◌<◌, List, [], ◌∷◌, ◌++◌, length, drop, get_or, map, fold, sym, refl, ap, ◌∙◌, arith}
+use Rattle.std.proofs.Common.{◌≡◌, ℕ, suc, ◌+◌, ◌-◌, ◌<◌, List, [], ◌∷◌, ◌++◌, length, drop, get_or, map, fold, sym, ap, ◌∙◌, arith}
 use Rattle.std.specs.List.{range_with_len, flat_map}
 use Rattle.std.proofs.Math.ListN.{get_or-append}
 use Rattle.std.proofs.Math.Seq.{drop-append_seam}
@@ -33,14 +33,7 @@ module _ {X : Type 0} (f : X → X → X) (charge : ℕ × ℕ → X) (a : X) wh
       ∙ ap (fold f a) (map-append charge (pairs j) (row j))
       ∙ fold-append f a (map charge (pairs j)) (map charge (row j))
 
--- an iterator over pairs: where it begins, within a row, and from row to row
-pub rows_begin : (n : ℕ) → rows_from 1 n ≡ pairs n
-rows_begin zero = refl
-rows_begin (suc n) = ap (λ m. flat_map row (range_with_len 1 m)) e
-  where
-    e : suc n - 1 ≡ n
-    e = omega arith
-
+-- an iterator over pairs: within a row, and from row to row
 rows_next : (j n : ℕ) → j < n → rows_from j n ≡ row j ++ rows_from (j + 1) n
 rows_next j n l = ap (λ m. flat_map row (range_with_len j m)) e
   where

@@ -1,14 +1,6 @@
-use Rattle.view.specs.Steps.{separation_booked}
 use Rattle.board.specs.State.{view_of}
-use Rattle.board.proofs.Told.{step_told, separation_carries}
+use Rattle.board.proofs.Told.{separation_carries}
 use Rattle.board.proofs.board.Board.separate.Goals as goal
-
-pub returns-clause-tells : goal.returns-clause-tells
-returns-clause-tells g c =
-    let k = g.A.Amount.kind in
-    let v = view_of c.args.self.now.state in
-    let cells = c.args.cells.now in
-    step_told v cells c.args.a c.args.b (separation_booked k v cells c.args.a c.args.b) c.try_separation-answer.result c.try_separation-answer.ensures.answer
 
 pub returns-clause-reached : goal.returns-clause-reached
 returns-clause-reached g c =
