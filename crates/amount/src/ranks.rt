@@ -47,8 +47,6 @@ impl fmt::Display for Ranked {
     ghost output = { λ ranked. Some (signed_decimal ranked.first.value ++ codes "/" ++ signed_decimal ranked.second.value) };
 
     fn fmt<W: fmt::Write>(&self, f: &mut fmt::Formatter<W>) -> fmt::Result {
-        let first = self.first;
-        let second = self.second;
-        write!(f, "{first}/{second}")
+        write!(f, "{}/{}", self.first, self.second)
     }
 }

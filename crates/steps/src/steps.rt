@@ -21,13 +21,8 @@ fn tell(
     answer: Result<(Option<usize>, Single), StepRefusal>,
 ) -> anyhow::Result<()> {
     match answer {
-        Ok(taken) => {
-            let (made, booked) = taken;
-            match made {
-                Some(id) => println!(rt; "  {what}: makes id {id}, books {booked}")?,
-                None => println!(rt; "  {what}: books {booked}")?,
-            }
-        }
+        Ok((Some(id), booked)) => println!(rt; "  {what}: makes id {id}, books {booked}")?,
+        Ok((None, booked)) => println!(rt; "  {what}: books {booked}")?,
         Err(refusal) => {
             let number = refusal.number();
             println!(rt; "  {what}: refused with {number}: {refusal}")?;
