@@ -10,9 +10,12 @@ use Rattle.amount.specs.Ranked.{ranked_below, ranked_kind}
 use Rattle.amount.specs.declared.ranks.Ranked.{Ranked}
 use Rattle.amount.specs.Trichotomy.{exactly_one}
 
--- two ranked amounts are one where both ranks are
-pub same_ranked : (x y : Ranked) → x.first ≡ y.first → x.second ≡ y.second → x ≡ y
-same_ranked x y p q = λ i. record { first = p i; second = q i }
+same_ranks : (x y : Ranked) → x.first ≡ y.first → x.second ≡ y.second → x ≡ y
+same_ranks x y p q = λ i. record { first = p i; second = q i }
+
+-- two ranked amounts are one where both numbers are
+pub same_ranked : (x y : Ranked) → x.first.value ≡ y.first.value → x.second.value ≡ y.second.value → x ≡ y
+same_ranked x y p q = same_ranks x y (same_single x.first y.first p) (same_single x.second y.second q)
 
 irreflexive : (a b : ℤ) → ranked_below a b a b ≡ false
 irreflexive a b = grind (arith, ints)
@@ -32,14 +35,14 @@ ranked_laws = record {
   span_zero = refl;
   span_opposite = λ x. omega (arith, single_laws.span_opposite);
   span_sum = λ x y h. omega (arith, single_laws.span_sum);
-  commutes = λ x y h. same_ranked _ _ (single_laws.commutes x.first y.first (omega arith)) (single_laws.commutes x.second y.second (omega arith));
-  associates = λ x y z h. same_ranked _ _ (single_laws.associates x.first y.first z.first (omega arith)) (single_laws.associates x.second y.second z.second (omega arith));
-  neutral = λ x. same_ranked _ _ (single_laws.neutral x.first) (single_laws.neutral x.second);
-  cancels = λ x h. same_ranked _ _ (single_laws.cancels x.first (omega arith)) (single_laws.cancels x.second (omega arith));
+  commutes = λ x y h. same_ranks _ _ (single_laws.commutes x.first y.first (omega arith)) (single_laws.commutes x.second y.second (omega arith));
+  associates = λ x y z h. same_ranks _ _ (single_laws.associates x.first y.first z.first (omega arith)) (single_laws.associates x.second y.second z.second (omega arith));
+  neutral = λ x. same_ranks _ _ (single_laws.neutral x.first) (single_laws.neutral x.second);
+  cancels = λ x h. same_ranks _ _ (single_laws.cancels x.first (omega arith)) (single_laws.cancels x.second (omega arith));
   ordered = exactly_one ranked_kind.below
       (λ x. irreflexive x.first.value x.second.value)
       (λ x y z. transitive x.first.value x.second.value y.first.value y.second.value z.first.value z.second.value)
-      (λ x y p q. let e = connected x.first.value x.second.value y.first.value y.second.value p q in same_ranked x y (same_single x.first y.first e.0) (same_single x.second y.second e.1));
+      (λ x y p q. let e = connected x.first.value x.second.value y.first.value y.second.value p q in same_ranked x y e.0 e.1);
   transitive = λ x y z. transitive x.first.value x.second.value y.first.value y.second.value z.first.value z.second.value;
   shifts = λ x y z h p. shifts x.first.value x.second.value y.first.value y.second.value z.first.value z.second.value h ∙ p;
 }

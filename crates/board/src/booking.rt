@@ -5,8 +5,8 @@ ghost use Rattle.view.specs.View.{is_open, Roomy};
 ghost use Rattle.board.specs.State.{view_of};
 
 use crate::board::Board;
+use crate::cells::put;
 use amount::{Amount, overlap};
-use job::put;
 
 impl Board {
     // Whether an id is live, and neither of the two that are joined.

@@ -3,6 +3,7 @@
 
 mod board;
 mod booking;
+mod cells;
 mod loading;
 mod playing;
 mod reading;

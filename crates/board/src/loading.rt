@@ -1,5 +1,5 @@
 // Loading a job onto a board.
-ghost use Rattle.std.specs.Prelude.{◌≡◌, ◌&&◌, nat_lt, IfOk};
+ghost use Rattle.std.specs.Prelude.{◌≡◌, ◌<◌, ◌&&◌, nat_lt, IfOk};
 ghost use Rattle.job.specs.Answers.{refused_with, refusal_of, FirstBroken};
 ghost use Rattle.job.specs.Job.{marked};
 ghost use Rattle.job.specs.Lent.{job_of};
@@ -12,28 +12,31 @@ ghost use Rattle.board.specs.Trail.{part_id, started};
 ghost use Rattle.view.specs.View.{Roomy};
 
 use crate::board::Board;
+use crate::cells::put;
 use crate::reading::is_roomy;
 use crate::refusals::LoadRefusal;
 use crate::state::{Id, State};
 use amount::Amount;
 use arrayvec::ArrayVec;
-use job::{Job, SizedJob, put};
+use job::{Job, SizedJob};
 use std::array;
 
 // Whether a part is marked with one below it.
-fn is_marked_below<A: Amount>(job: &Job<'_, A>, part: usize, below: usize) -> bool
-    ensures { result ≡ (nat_lt below part && marked (job_of job.now) part below) }
+fn is_marked_below<A: Amount>(sized: &SizedJob<'_, A>, part: usize, below: usize) -> bool
+    requires { part < sized.now.job.parts }
+    ensures { result ≡ (nat_lt below part && marked (job_of sized.now.job) part below) }
 {
-    below < part && job.is_marked(part, below)
+    below < part && sized.job.marks[part * sized.job.parts + below]
 }
 
 // The id of a part before any step: the part alone, apart from the parts below it that it is marked with.
-fn part_id<A: Amount>(job: &Job<'_, A>, part: usize) -> Id
-    ensures { result ≡ part_id (job_of job.now) part }
+fn part_id<A: Amount>(sized: &SizedJob<'_, A>, part: usize) -> Id
+    requires { part < sized.now.job.parts }
+    ensures { result ≡ part_id (job_of sized.now.job) part }
 {
     Id {
         live: true,
-        apart: array::from_fn(|below| is_marked_below(job, part, below)),
+        apart: array::from_fn(|below| is_marked_below(sized, part, below)),
         members: array::from_fn(|other| part == other),
     }
 }
@@ -46,7 +49,7 @@ fn start_state<A: Amount>(sized: &SizedJob<'_, A>) -> State
     let mut ids = ArrayVec::new();
     // a loop: `collect` would answer a `Result`, though there is room
     for part in 0..parts {
-        ids.push(part_id(&sized.job, part));
+        ids.push(part_id(sized, part));
     }
     State {
         parts,

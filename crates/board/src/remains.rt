@@ -60,7 +60,7 @@ impl Board {
         self.is_apart(i, j) && self.share(labels, i, j)
     }
 
-    // Whether no two ids that are apart share a group. (The chain of a job's `is_respected`, with a test of its own.)
+    // Whether no two ids that are apart share a group. (A job's `is_respected` goes row by row, with a test of its own.)
     fn are_kept_apart(&self, labels: &[usize]) -> bool
         ensures { result ≡ every_pair (width (view_of self.now.state)) (λ i j. not (is_clash (view_of self.now.state) labels.now i j)) }
     {
@@ -85,7 +85,7 @@ impl Board {
         Bill::of_pair(self.share(labels, i, j), self.amount(cells, i, j))
     }
 
-    // The bill of all open pairs. (The chain of a job's bill, with another charge: a function of both would take the charge as a closure, and say no more than the chain does.)
+    // The bill of all open pairs. (A job's bill goes row by row, with another charge: a function of both would take the charge as a closure, and say no more than the chain does.)
     fn open_bill<A: Amount>(&self, cells: &[A], labels: &[usize]) -> Bill<A>
         ensures separating { result.separating ≡ remaining_separating A.Amount.kind (view_of self.now.state) cells.now labels.now }
         ensures joining { result.joining ≡ remaining_joining A.Amount.kind (view_of self.now.state) cells.now labels.now }

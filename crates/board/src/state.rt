@@ -1,6 +1,6 @@
 // What a board holds, steps on it, and steps taken back.
-ghost use Rattle.std.specs.Prelude.{◌≡◌, ◌<◌, Some};
-ghost use Rattle.board.specs.State.{made, is_live, is_aside, is_member};
+ghost use Rattle.std.specs.Prelude.{◌≡◌, ◌<◌, ◌≤◌, ◌||◌, false, Some, slice_index_or};
+ghost use Rattle.board.specs.State.{made, id_at, is_live, is_aside, is_member};
 ghost use Rattle.board.specs.Trail.{joined_id, with_flag, redone, last_step, undone, Doable, Undoable};
 
 use arrayvec::ArrayVec;
@@ -42,11 +42,30 @@ impl State {
         self.ids.get(id).is_some_and(|id| id.live)
     }
 
-    // Whether the larger of two ids says that they are apart.
+    // Whether an id says that it is apart from one below it.
+    fn is_apart_below(&self, id: usize, below: usize) -> bool
+        requires { below ≤ id }
+        ensures { result ≡ slice_index_or (id_at self.now id).apart below false }
+    {
+        self.ids.get(id).is_some_and(|id| id.apart[below])
+    }
+
+    // Whether the larger of two ids says that they are apart. (By a branch: `max` and `min` of the two make each read wait for the comparison.)
     pub(crate) fn is_aside(&self, i: usize, j: usize) -> bool
         ensures { result ≡ is_aside self.now i j }
     {
-        self.ids.get(i.max(j)).is_some_and(|id| id.apart[i.min(j)])
+        if i < j {
+            self.is_apart_below(j, i)
+        } else {
+            self.is_apart_below(i, j)
+        }
+    }
+
+    // Whether one of two ids is apart from w: none is from an id that was not made.
+    fn is_either_aside(&self, a: usize, b: usize, w: usize) -> bool
+        ensures { result ≡ (is_aside self.now a w || is_aside self.now b w) }
+    {
+        w < self.ids.len() && (self.is_aside(a, w) || self.is_aside(b, w))
     }
 
     // Whether an id holds a part.
@@ -64,7 +83,7 @@ impl State {
     {
         Id {
             live: true,
-            apart: array::from_fn(|w| self.is_aside(a, w) || self.is_aside(b, w)),
+            apart: array::from_fn(|w| self.is_either_aside(a, b, w)),
             members: array::from_fn(|p| self.is_member(a, p) || self.is_member(b, p)),
         }
     }
@@ -74,10 +93,15 @@ impl State {
         requires { (a < made self.old) × (b < made self.old) }
         ensures { self.new ≡ record self.old { ids = record { items = with_flag self.old.ids.items a b flag } } }
     {
-        self.ids[a.max(b)].apart[a.min(b)] = flag;
+        if a < b {
+            self.ids[b].apart[a] = flag;
+        } else {
+            self.ids[a].apart[b] = flag;
+        }
     }
 
-    // Takes a step: the two make way for the id made of them, or become apart.
+    // Takes a step: the two make way for the id made of them, or become apart. (Inlined, so that each of the two has code of its own.)
+    #[inline(always)]
     pub(crate) fn put(&mut self, step: Step)
         requires { Doable self.old step }
         ensures { self.new ≡ redone self.old (Some step) }

@@ -33,7 +33,8 @@ impl Board {
         Ok(())
     }
 
-    // Takes a step of an open pair, in what the board holds.
+    // Takes a step of an open pair, in what the board holds. (Inlined, as what it calls is.)
+    #[inline(always)]
     fn put(&mut self, step: Step)
         requires { Legal self.old.state (Some step) }
         ensures taken { StepsTo self.old.state (view_after (view_of self.old.state) step) self.new.state }

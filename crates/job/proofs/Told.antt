@@ -1,13 +1,13 @@
 -- What the tests of a job and of a grouping tell, and so what each answer tells.
-use Rattle.std.proofs.Common.{◌≡◌, ℕ, ◌*◌, ◌<◌, ◌≤◌, Bool, true, false, not, ◌&&◌, eqb, leb, ◌⊎◌, List, length, Some, None, Ok, Err, Decides, Option, Result, sym, refl, ap, ◌∙◌, subst, inl, inr, arith}
-use Rattle.std.proofs.lemmas.Bool.{leb-true, le-leb, cases_order, both_ways, true≢false, false≢true}
+use Rattle.std.proofs.Common.{◌≡◌, ℕ, ◌*◌, ◌<◌, ◌≤◌, Bool, true, false, not, ◌&&◌, ◌||◌, eqb, leb, ◌⊎◌, List, length, Some, None, Ok, Err, Decides, Option, Result, sym, refl, ap, ◌∙◌, subst, inl, inr, arith}
+use Rattle.std.proofs.lemmas.Bool.{leb-true, le-leb, cases_eq, cases_order, both_ways, true≢false, false≢true}
 use Rattle.std.specs.List.{All}
 use Rattle.std.proofs.lemmas.List.Elements.{All-get_or, All-from_get_or}
-use Rattle.std.proofs.lemmas.Bool.Decides.{Decides-by_and, Decides-and, Decides-not, Decides-eqb, Decides-like, not_from_Decides}
+use Rattle.std.proofs.lemmas.Bool.Decides.{Decides-by_and, Decides-and, Decides-or, Decides-not, Decides-eqb, Decides-like, not_from_Decides}
 use Rattle.amount.specs.Kind.{Kind, Laws}
 use Rattle.amount.proofs.Order.{same_is}
 use Rattle.job.specs.Tests.{alike, refuse_unless, refuse_or}
-use Rattle.job.specs.Job.{Job, amount_at, marked, max_span, max_parts, Within, Sized, Mirrored, Narrow, Sound, is_within, is_sized, is_twin, is_blank, is_mirrored, is_narrow}
+use Rattle.job.specs.Job.{Job, amount_at, marked, max_span, max_parts, Within, Sized, Mirrored, Narrow, Sound, is_within, is_sized, is_mirrored_at, is_mirrored, is_narrow}
 use Rattle.job.specs.Grouping.{Grouping, Respects, label, together, is_label, is_grouping, is_respectful}
 use Rattle.job.specs.Cost.{cost}
 use Rattle.job.specs.Answers.{checked, priced, refused_with, FirstBroken, job_rules, cost_rules}
@@ -34,6 +34,21 @@ not_tells false = (λ _. refl, λ _. refl)
 -- a test that denies two at once
 pub not_both_tells : {P Q : Type 0} (a b : Bool) → Decides a P → Decides b Q → Decides (not (a && b)) (P → Q → ⊥)
 not_both_tells a b d e = Decides-like (not (a && b)) (λ n p q. n (p, q)) (λ n h. n h.0 h.1) (Decides-not (a && b) (Decides-and a b d e))
+
+-- a test that is asked only where i is j
+where_same : {P : Type 0} (i j : ℕ) (t : Bool) → Decides t P → Decides (not (eqb i j) || t) (i ≡ j → P)
+where_same {P} i j t d = Decides-like (not (eqb i j) || t) to from (Decides-or (not (eqb i j)) t (Decides-not (eqb i j) (Decides-eqb i j)) d)
+  where
+    to : (i ≡ j → ⊥) ⊎ P → i ≡ j → P
+    to (inl n) e = absurd (n e)
+    to (inr p) e = p
+
+    pick : (i ≡ j → P) → (i ≡ j) ⊎ (i ≡ j → ⊥) → (i ≡ j → ⊥) ⊎ P
+    pick h (inl e) = inr (h e)
+    pick h (inr n) = inl n
+
+    from : (i ≡ j → P) → (i ≡ j → ⊥) ⊎ P
+    from h = pick h (cases_eq i j)
 
 -- n labels are a grouping exactly if the test says so
 pub grouping_tells : (n : ℕ) (labels : List ℕ) → length labels ≡ n → Decides (is_grouping n labels) (Grouping n labels)
@@ -67,32 +82,30 @@ module _ {A : Type 0} (k : Kind A) (laws : Laws k) (job : Job A) where
   pub sized_tells : Decides (is_sized job) (Sized job)
   sized_tells = Decides-and (eqb (length job.square) (job.parts * job.parts)) (eqb (length job.marks) (job.parts * job.parts)) (Decides-eqb _ _) (Decides-eqb _ _)
 
-  abbrev Twin : ℕ → ℕ → Type 0
-  Twin i j = (amount_at k job i j ≡ amount_at k job j i) × (marked job i j ≡ marked job j i)
+  abbrev MirroredAt : ℕ → ℕ → Type 0
+  MirroredAt i j = ((amount_at k job i j ≡ amount_at k job j i) × (marked job i j ≡ marked job j i)) × (i ≡ j → (amount_at k job i i ≡ k.zero) × (marked job i i ≡ false))
 
-  abbrev Blank : ℕ → Type 0
-  Blank i = (amount_at k job i i ≡ k.zero) × (marked job i i ≡ false)
+  mirrored_at_tells : (i j : ℕ) → Decides (is_mirrored_at k job i j) (MirroredAt i j)
+  mirrored_at_tells i j =
+      let a = same_is k laws (amount_at k job i j) (amount_at k job j i) in
+      let b = alike_tells (marked job i j) (marked job j i) in
+      let c = same_is k laws (amount_at k job i i) k.zero in
+      let d = not_tells (marked job i i) in
+      Decides-and _ _ (Decides-and _ _ a b) (where_same i j _ (Decides-and _ _ c d))
 
   pub mirrored_tells : Decides (is_mirrored k job) (Mirrored k job)
-  mirrored_tells = Decides-like (is_mirrored k job) to from (Decides-and _ _
-      (every_pair_tells (is_twin k job) Twin (λ i j. Decides-and _ _ (same_is k laws (amount_at k job i j) (amount_at k job j i)) (alike_tells (marked job i j) (marked job j i))) job.parts)
-      (every_tells (is_blank k job) Blank (λ i. Decides-and _ _ (same_is k laws (amount_at k job i i) k.zero) (not_tells (marked job i i))) job.parts))
+  mirrored_tells = Decides-like (is_mirrored k job) to from (every_tells _ _ (λ i. every_tells _ _ (mirrored_at_tells i) job.parts) job.parts)
     where
-      pick : ((j : ℕ) → j < job.parts → (i : ℕ) → i < j → Twin i j) → (i j : ℕ) → i < job.parts → j < job.parts → (i ≡ j) ⊎ ((i < j) ⊎ (j < i)) → Twin i j
-      pick h i j p q (inl e) = (ap (λ m. amount_at k job m j) e ∙ ap (amount_at k job j) (sym e), ap (λ m. marked job m j) e ∙ ap (marked job j) (sym e))
-      pick h i j p q (inr (inl l)) = h j q i l
-      pick h i j p q (inr (inr l)) = (sym (h i p j l).0, sym (h i p j l).1)
-
-      to : ((j : ℕ) → j < job.parts → (i : ℕ) → i < j → Twin i j) × ((i : ℕ) → i < job.parts → Blank i) → Mirrored k job
+      to : ((i : ℕ) → i < job.parts → (j : ℕ) → j < job.parts → MirroredAt i j) → Mirrored k job
       to h = record {
-        square_symmetric = λ i j p q. (pick h.0 i j p q (cases_order i j)).0;
-        square_diagonal = λ i p. (h.1 i p).0;
-        marks_symmetric = λ i j p q. (pick h.0 i j p q (cases_order i j)).1;
-        marks_diagonal = λ i p. (h.1 i p).1;
+        square_symmetric = λ i j p q. (h i p j q).0.0;
+        square_diagonal = λ i p. ((h i p i p).1 refl).0;
+        marks_symmetric = λ i j p q. (h i p j q).0.1;
+        marks_diagonal = λ i p. ((h i p i p).1 refl).1;
       }
 
-      from : Mirrored k job → ((j : ℕ) → j < job.parts → (i : ℕ) → i < j → Twin i j) × ((i : ℕ) → i < job.parts → Blank i)
-      from e = (λ j q i l. (e.square_symmetric i j (omega arith) q, e.marks_symmetric i j (omega arith) q), λ i p. (e.square_diagonal i p, e.marks_diagonal i p))
+      from : Mirrored k job → (i : ℕ) → i < job.parts → (j : ℕ) → j < job.parts → MirroredAt i j
+      from e i p j q = ((e.square_symmetric i j p q, e.marks_symmetric i j p q), λ _. (e.square_diagonal i p, e.marks_diagonal i p))
 
   pub mirrored_told : is_mirrored k job ≡ true → Mirrored k job
   mirrored_told = mirrored_tells.0

@@ -1,10 +1,10 @@
 -- A job: parts numbered from 0, an amount for each pair, and marks on the pairs that must be apart.
 -- In the literature an edge-weighted graph with forbidden edges.
-use Rattle.std.specs.Prelude.{◌≡◌, ℕ, ◌+◌, ◌*◌, ◌<◌, ◌≤◌, Bool, false, not, ◌&&◌, List, length, ◌==◌, nat_le, slice_index_or}
+use Rattle.std.specs.Prelude.{◌≡◌, ℕ, ◌+◌, ◌*◌, ◌<◌, ◌≤◌, Bool, false, not, ◌&&◌, ◌||◌, List, length, ◌==◌, nat_le, slice_index_or}
 use Rattle.amount.specs.Kind.{Kind}
 use Rattle.amount.specs.Signs.{same}
 use Rattle.std.specs.List.{list_all}
-use Rattle.job.specs.Tests.{every, every_pair, alike}
+use Rattle.job.specs.Tests.{every, alike}
 
 -- the square and the marks are written row by row
 pub record Job (A : Type 0) : Type 0 where
@@ -73,8 +73,12 @@ is_twin k job i j = same k (amount_at k job i j) (amount_at k job j i) && alike 
 abbrev pub is_blank : {A : Type 0} → Kind A → Job A → ℕ → Bool
 is_blank k job i = same k (amount_at k job i i) k.zero && not (marked job i i)
 
+-- the cells i, j hold what the cells j, i hold, and nothing where they are on the diagonal
+abbrev pub is_mirrored_at : {A : Type 0} → Kind A → Job A → ℕ → ℕ → Bool
+is_mirrored_at k job i j = is_twin k job i j && (not (i == j) || is_blank k job i)
+
 abbrev pub is_mirrored : {A : Type 0} → Kind A → Job A → Bool
-is_mirrored k job = every_pair job.parts (is_twin k job) && every job.parts (is_blank k job)
+is_mirrored k job = every job.parts (λ i. every job.parts (is_mirrored_at k job i))
 
 abbrev pub is_narrow : {A : Type 0} → Kind A → List A → Bool
 is_narrow k square = list_all (λ x. nat_le (k.span x) max_span) square

@@ -1,5 +1,5 @@
 // Groupings: a label for each part, the smallest part of its group. Labels are a slice, as users lend them, beside the numbers that are asked of.
-ghost use Rattle.std.specs.Prelude.{◌≡◌, ◌↔◌, length, IsTrue};
+ghost use Rattle.std.specs.Prelude.{◌≡◌, ◌<◌, ◌↔◌, length, IsTrue};
 ghost use Rattle.job.specs.Grouping.{Grouping, label, together, is_label, is_grouping};
 
 // The label of a part; one that is not there reads as 0, as the definition has it. (An `Option` would put that 0 at each call.)
@@ -14,6 +14,14 @@ pub fn share_group(labels: &[usize], i: usize, j: usize) -> bool
     ensures { result ≡ together labels.now i j }
 {
     label(labels, i) == label(labels, j)
+}
+
+// The same of two parts that are known to have labels: no test is made.
+pub(crate) fn do_share(labels: &[usize], i: usize, j: usize) -> bool
+    requires { (i < length labels.now) × (j < length labels.now) }
+    ensures { result ≡ together labels.now i j }
+{
+    labels[i] == labels[j]
 }
 
 // Whether the label of a part is no part above it, and is its own label.

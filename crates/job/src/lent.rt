@@ -1,16 +1,16 @@
 // Jobs as they are lent: what is read of them, their check, and what a grouping costs.
-ghost use Rattle.std.specs.Prelude.{◌≡◌, IsOk, IfOk};
+ghost use Rattle.std.specs.Prelude.{◌≡◌, ◌<◌, not, length, map, fold, IsOk, IfOk};
 ghost use Rattle.job.specs.Answers.{sizes_checked, checked, priced, refused_with, refusal_of, FirstBroken, size_rules, job_rules, cost_rules};
 ghost use Rattle.job.specs.Cost.{separating_charge, joining_charge, separating, joining, ExactCost};
 ghost use Rattle.job.specs.Grouping.{is_clash, is_respectful};
-ghost use Rattle.job.specs.Job.{amount_at, marked, Within, Sized, is_twin, is_blank, is_narrow};
+ghost use Rattle.job.specs.Job.{amount_at, marked, Within, Sized, is_twin, is_blank, is_mirrored_at, is_mirrored, is_narrow};
 ghost use Rattle.job.specs.Lent.{job_of};
-ghost use Rattle.job.specs.Tests.{every, every_pair};
+ghost use Rattle.job.specs.Tests.{every, row};
 ghost use Rattle.job.specs.Refusals.{job_number, cost_number};
 
-use crate::{
-    Bill, CostRefusal, JobRefusal, MAX_PARTS, MAX_SPAN, Pairs, cell, is_grouping, share_group,
-};
+use crate::cells::there;
+use crate::groups::do_share;
+use crate::{Bill, CostRefusal, JobRefusal, MAX_PARTS, MAX_SPAN, cell, is_grouping};
 use amount::{Amount, is_same};
 
 // A job: how many parts there are, the square of amounts and the marks, both row by row. The three are as users lend them, and nothing is checked of them: whether they fit, the check says.
@@ -57,31 +57,45 @@ impl<'a, A: Amount> Job<'a, A> {
 
     // Whether the cells i, j hold what the cells j, i hold.
     fn is_twin(&self, i: usize, j: usize) -> bool
+        requires { (Sized (job_of self.now)) × ((i < self.now.parts) × (j < self.now.parts)) }
         ensures { result ≡ is_twin A.Amount.kind (job_of self.now) i j }
     {
-        is_same(self.amount(i, j), self.amount(j, i))
-            && self.is_marked(i, j) == self.is_marked(j, i)
+        let n = self.parts;
+        is_same(there(self.square, n, i, j), there(self.square, n, j, i))
+            && there(self.marks, n, i, j) == there(self.marks, n, j, i)
     }
 
     // Whether the cells i, i hold nothing.
     fn is_blank(&self, i: usize) -> bool
+        requires { (Sized (job_of self.now)) × (i < self.now.parts) }
         ensures { result ≡ is_blank A.Amount.kind (job_of self.now) i }
     {
-        is_same(self.amount(i, i), A::zero()) && !self.is_marked(i, i)
+        let n = self.parts;
+        is_same(there(self.square, n, i, i), A::zero()) && !there(self.marks, n, i, i)
     }
 
-    // Whether square and marks are symmetric.
-    fn is_symmetric(&self) -> bool
-        ensures { result ≡ every_pair self.now.parts (is_twin A.Amount.kind (job_of self.now)) }
+    // Whether the cells i, j hold what the cells j, i hold, and nothing where they are on the diagonal.
+    fn is_mirrored_at(&self, i: usize, j: usize) -> bool
+        requires { (Sized (job_of self.now)) × ((i < self.now.parts) × (j < self.now.parts)) }
+        ensures { result ≡ is_mirrored_at A.Amount.kind (job_of self.now) i j }
     {
-        Pairs::below(self.parts).all(|(i, j)| self.is_twin(i, j))
+        self.is_twin(i, j) && (i != j || self.is_blank(i))
     }
 
-    // Whether the diagonals hold nothing.
-    fn is_bare(&self) -> bool
-        ensures { result ≡ every self.now.parts (is_blank A.Amount.kind (job_of self.now)) }
+    // The same of a row.
+    fn is_mirrored_row(&self, i: usize) -> bool
+        requires { (Sized (job_of self.now)) × (i < self.now.parts) }
+        ensures { result ≡ every self.now.parts (is_mirrored_at A.Amount.kind (job_of self.now) i) }
     {
-        (0..self.parts).all(|i| self.is_blank(i))
+        (0..self.parts).all(|j| self.is_mirrored_at(i, j))
+    }
+
+    // Whether square and marks are symmetric, with nothing on the diagonal: row by row, so that a job is refused at the first cell that is not.
+    fn is_mirrored(&self) -> bool
+        requires { Sized (job_of self.now) }
+        ensures { result ≡ is_mirrored A.Amount.kind (job_of self.now) }
+    {
+        (0..self.parts).all(|i| self.is_mirrored_row(i))
     }
 
     // Whether no amount of the square is too wide.
@@ -113,7 +127,7 @@ impl<'a, A: Amount> Job<'a, A> {
         ensures tells { FirstBroken (job_rules A.Amount.kind (job_of self.now)) (refused_with job_number result) }
     {
         self.sized()?;
-        if !self.is_symmetric() || !self.is_bare() {
+        if !self.is_mirrored() {
             return Err(JobRefusal::Lopsided);
         }
         if !self.is_narrow() {
@@ -124,37 +138,56 @@ impl<'a, A: Amount> Job<'a, A> {
 
     // Whether a pair is marked and shares a group.
     fn is_clash(&self, labels: &[usize], i: usize, j: usize) -> bool
+        requires { (Sized (job_of self.now)) × ((length labels.now ≡ self.now.parts) × ((i < self.now.parts) × (j < self.now.parts))) }
         ensures { result ≡ is_clash (job_of self.now) labels.now i j }
     {
-        self.is_marked(i, j) && share_group(labels, i, j)
+        there(self.marks, self.parts, i, j) && do_share(labels, i, j)
     }
 
-    // Whether no marked pair shares a group. (A board has the same chain, with a test of its own: a function of both would take the test as a closure, and say no more than the chain does.)
+    // Whether no marked pair of a part and one below it shares a group.
+    fn is_row_respected(&self, labels: &[usize], j: usize) -> bool
+        requires { (Sized (job_of self.now)) × ((length labels.now ≡ self.now.parts) × (j < self.now.parts)) }
+        ensures { result ≡ every j (λ i. not (is_clash (job_of self.now) labels.now i j)) }
+    {
+        (0..j).all(|i| !self.is_clash(labels, i, j))
+    }
+
+    // Whether no marked pair shares a group.
     fn is_respected(&self, labels: &[usize]) -> bool
+        requires { (Sized (job_of self.now)) × (length labels.now ≡ self.now.parts) }
         ensures { result ≡ is_respectful (job_of self.now) labels.now }
     {
-        Pairs::below(self.parts).all(|(i, j)| !self.is_clash(labels, i, j))
+        (0..self.parts).all(|j| self.is_row_respected(labels, j))
     }
 
     // The bill of one pair: nothing if it is marked.
     fn charge(&self, labels: &[usize], i: usize, j: usize) -> Bill<A>
+        requires { (Sized (job_of self.now)) × ((length labels.now ≡ self.now.parts) × ((i < self.now.parts) × (j < self.now.parts))) }
         ensures separating { result.separating ≡ separating_charge A.Amount.kind (job_of self.now) labels.now (i, j) }
         ensures joining { result.joining ≡ joining_charge A.Amount.kind (job_of self.now) labels.now (i, j) }
     {
-        if self.is_marked(i, j) {
+        if there(self.marks, self.parts, i, j) {
             return Bill::default();
         }
-        Bill::of_pair(share_group(labels, i, j), self.amount(i, j))
+        Bill::of_pair(do_share(labels, i, j), there(self.square, self.parts, i, j))
+    }
+
+    // The bill so far, with the pairs of a part and those below it.
+    fn row_bill(&self, so_far: Bill<A>, labels: &[usize], j: usize) -> Bill<A>
+        requires { (Sized (job_of self.now)) × ((length labels.now ≡ self.now.parts) × (j < self.now.parts)) }
+        ensures separating { result.separating ≡ fold A.Amount.kind.sum so_far.separating (map (separating_charge A.Amount.kind (job_of self.now) labels.now) (row j)) }
+        ensures joining { result.joining ≡ fold A.Amount.kind.sum so_far.joining (map (joining_charge A.Amount.kind (job_of self.now) labels.now) (row j)) }
+    {
+        (0..j).fold(so_far, |bill, i| bill.plus(self.charge(labels, i, j)))
     }
 
     // The bill of all pairs.
     fn bill(&self, labels: &[usize]) -> Bill<A>
+        requires { (Sized (job_of self.now)) × (length labels.now ≡ self.now.parts) }
         ensures separating { result.separating ≡ separating A.Amount.kind (job_of self.now) labels.now }
         ensures joining { result.joining ≡ joining A.Amount.kind (job_of self.now) labels.now }
     {
-        Pairs::below(self.parts).fold(Bill::default(), |bill, (i, j)| {
-            bill.plus(self.charge(labels, i, j))
-        })
+        (0..self.parts).fold(Bill::default(), |bill, j| self.row_bill(bill, labels, j))
     }
 
     // The cost of a grouping: the positive amounts between groups plus the absolute negative ones inside.

@@ -1,4 +1,4 @@
-use Rattle.std.proofs.Common.{◌≡◌, sym, ap, ◌∙◌, arith}
+use Rattle.std.proofs.Common.{◌≡◌, ℕ, ◌*◌, ◌<◌, ◌≤◌, length, sym, ap, ◌∙◌, arith}
 use Rattle.view.specs.View.{width}
 use Rattle.view.specs.Steps.{rewritten}
 use Rattle.view.proofs.Good.{open_is}
@@ -10,6 +10,21 @@ use Rattle.board.proofs.board.Board.write_amounts.Goals.{then-is_other, else-is_
 
 pub loop-w-init : goal.loop-w-init
 loop-w-init g c = starts g.A.Amount.kind (view_of c.args.self.now.state) c.args.cells.now c.args.a c.args.b
+
+-- a cell of the new id is there
+inside : (made wide n m w next_id width_is : ℕ) → made ≡ next_id → wide ≡ width_is → next_id < width_is → width_is * width_is ≤ m → n ≡ m → w < wide → (wide * wide ≤ n) × ((made < wide) × (w < wide))
+inside made wide n m w next_id width_is e f h r l t = (let s : wide * wide ≡ width_is * width_is = ap (λ x. x * x) f in omega arith, (omega arith, t))
+
+pub put-requires : goal.put-requires
+put-requires g c =
+    let past = c.args.self.now.past in
+    inside _ _ _ (length c.args.cells.now) _ _ _ (c.len-id.ensures.value ∙ made_is _ past) c.width-width.ensures (next_fits _ past _ _ c.requires.1) c.requires.0 c.loop-w.auto.cells c.loop-w-test.true
+
+pub put-requires-then-is_other : goal.put-requires-then-is_other
+put-requires-then-is_other g c =
+    let past = c.args.self.now.past in
+    let h = inside _ _ _ (length c.args.cells.now) _ _ _ (c.len-id.ensures.value ∙ made_is _ past) c.width-width.ensures (next_fits _ past _ _ c.requires.1) c.requires.0 (c.put.auto.cells ∙ c.loop-w.auto.cells) c.loop-w-test.true in
+    (h.0, (omega (arith, h.1.0, h.1.1), omega (arith, h.1.0, h.1.1)))
 
 pub loop-w-preserved : goal.loop-w-preserved
 loop-w-preserved g c =
